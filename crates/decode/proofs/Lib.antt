@@ -1,0 +1,2 @@
+-- Laws of the row table.
+pub mod Laws

@@ -1,0 +1,3 @@
+-- What the decoder and the row table promise.
+pub mod Decode
+pub mod Rows

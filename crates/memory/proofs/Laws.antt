@@ -1,0 +1,44 @@
+-- Laws of reads and stores.
+use Prim.Native.Nat.{ℕ, zero, suc, _<_, _≤_}
+use mathlib.Core.Path.{_≡_, refl, sym, ap, subst, _∙_}
+use mathlib.Core.List.{List, [], _∷_}
+use mathlib.Core.Logic.{⊎-elim}
+use native.Mathlib.Nat.{le-of-suc-le-suc}
+use native.Mathlib.Omega.{arith}
+use lib.Dec.{lit<}
+use lib.ListN.{length, getD, set, length-set, List·getD-eq-default}
+use lib.Seq.{getD-set-same, getD-set-other, set-out}
+use Rattle.memory.specs.Memory.{peekOf, pokeOf, Words, PokeLaws}
+
+-- within a list the default is not used
+pub getD-within : (l : List ℕ) (i d e : ℕ) → i < length l → getD l i d ≡ getD l i e
+getD-within [] i d e h = absurd (omega arith)
+getD-within (x ∷ l) zero d e h = refl
+getD-within (x ∷ l) (suc i) d e h = getD-within l i d e (le-of-suc-le-suc h)
+
+peek-same : (m : List ℕ) (a w : ℕ) → a < length m → peekOf (pokeOf m a w) a ≡ w
+unfolding peekOf pokeOf
+peek-same m a w h = getD-set-same m a w 0xFFFF h
+
+peek-other : (m : List ℕ) (a w b : ℕ) → (a ≡ b → ⊥) → peekOf (pokeOf m a w) b ≡ peekOf m b
+unfolding peekOf pokeOf
+peek-other m a w b h = getD-set-other m a b w 0xFFFF (λ e. h (sym e))
+
+poke-length : (m : List ℕ) (a w : ℕ) → length (pokeOf m a w) ≡ length m
+unfolding pokeOf
+poke-length m a w = length-set m a w
+
+-- a store leaves at each address the old word or the word stored
+set-words : (m : List ℕ) (a w b d : ℕ) → w < 65536 → getD m b d < 65536 → getD (set m a w) b d < 65536
+set-words [] a w b d p q = q
+set-words (x ∷ m) zero w zero d p q = p
+set-words (x ∷ m) zero w (suc b) d p q = q
+set-words (x ∷ m) (suc a) w zero d p q = q
+set-words (x ∷ m) (suc a) w (suc b) d p q = set-words m a w b d p q
+
+poke-words : (m : List ℕ) (a w : ℕ) → Words m → w < 65536 → Words (pokeOf m a w)
+unfolding peekOf pokeOf
+poke-words m a w h p = λ b. set-words m a w b 0xFFFF p (h b)
+
+pub poke-laws : PokeLaws
+poke-laws = record { same = peek-same; other = peek-other; keeps-length = poke-length; keeps-words = poke-words }

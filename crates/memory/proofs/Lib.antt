@@ -1,0 +1,2 @@
+-- Laws of the memory.
+pub mod Laws

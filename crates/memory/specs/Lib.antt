@@ -1,0 +1,2 @@
+-- What the memory promises.
+pub mod Memory

@@ -1,0 +1,63 @@
+-- No two refusals share a number: each is found again from its number.
+use Prim.Native.Nat.{ℕ}
+use mathlib.Core.Path.{_≡_, refl, ap, sym, _∙_}
+use mathlib.Core.List.{List, [], _∷_}
+use lib.ListN.{getD}
+use Rattle.refusal.specs.declared.Refusal.{Refusal}
+use Rattle.refusal.specs.declared.Refusal.the-variants.{
+  MemoryTooLong,
+  Halted,
+  Unspecified,
+  BudgetTooHigh,
+  TextRoomTooSmall,
+  NotAListingLine,
+  FirstAboveLast,
+  LimitTooHigh,
+  MalformedImage,
+  WrongBoard,
+  PastMemory,
+  SumDiffers,
+  ImageRoomTooSmall,
+}
+use Rattle.refusal.specs.Refusals.{refusalNumber, NumbersApart}
+
+-- the refusal of a number; no refusal has the number 0
+numbered : ℕ → Refusal
+numbered n =
+    getD
+    (MemoryTooLong
+    ∷ MemoryTooLong
+    ∷ Halted
+    ∷ Unspecified
+    ∷ BudgetTooHigh
+    ∷ TextRoomTooSmall
+    ∷ NotAListingLine
+    ∷ FirstAboveLast
+    ∷ LimitTooHigh
+    ∷ MalformedImage
+    ∷ WrongBoard
+    ∷ PastMemory
+    ∷ SumDiffers
+    ∷ ImageRoomTooSmall
+    ∷ [])
+    n
+    MemoryTooLong
+
+found : (r : Refusal) → numbered (refusalNumber r) ≡ r
+unfolding numbered
+found MemoryTooLong = refl
+found Halted = refl
+found Unspecified = refl
+found BudgetTooHigh = refl
+found TextRoomTooSmall = refl
+found NotAListingLine = refl
+found FirstAboveLast = refl
+found LimitTooHigh = refl
+found MalformedImage = refl
+found WrongBoard = refl
+found PastMemory = refl
+found SumDiffers = refl
+found ImageRoomTooSmall = refl
+
+pub numbers-apart : NumbersApart
+numbers-apart a b e = sym (found a) ∙ ap numbered e ∙ found b

@@ -1,0 +1,2 @@
+-- What the refusals promise.
+pub mod Refusals

@@ -1,0 +1,51 @@
+-- Document 01, "Refusal numbers": the number of each refusal.
+use Prim.Native.Nat.{ℕ}
+use mathlib.Core.Path.{_≡_}
+use Rattle.refusal.specs.declared.Refusal.{Refusal}
+use Rattle.refusal.specs.declared.Refusal.the-variants.{
+  MemoryTooLong,
+  Halted,
+  Unspecified,
+  BudgetTooHigh,
+  TextRoomTooSmall,
+  NotAListingLine,
+  FirstAboveLast,
+  LimitTooHigh,
+  MalformedImage,
+  WrongBoard,
+  PastMemory,
+  SumDiffers,
+  ImageRoomTooSmall,
+}
+
+abbrev pub refusalNumber : Refusal → ℕ
+-- memory above 65,536 words
+refusalNumber MemoryTooLong = 1
+-- step or run on a halted machine
+refusalNumber Halted = 2
+-- step meets an unspecified form
+refusalNumber Unspecified = 3
+-- budget above 1,000,000
+refusalNumber BudgetTooHigh = 4
+-- text room under 16 bytes
+refusalNumber TextRoomTooSmall = 5
+-- line not one of the lister's
+refusalNumber NotAListingLine = 6
+-- first above last
+refusalNumber FirstAboveLast = 7
+-- limit above 4,096
+refusalNumber LimitTooHigh = 8
+-- missing or wrong mark, cut file, bad count, bytes after OK; over-long program input
+refusalNumber MalformedImage = 9
+-- ID board not the board given
+refusalNumber WrongBoard = 10
+-- record or written region past the lent memory
+refusalNumber PastMemory = 11
+-- sum differs
+refusalNumber SumDiffers = 12
+-- image room too small
+refusalNumber ImageRoomTooSmall = 13
+
+-- no two refusals share a number
+abbrev pub NumbersApart : Type 0
+NumbersApart = (a b : Refusal) → refusalNumber a ≡ refusalNumber b → a ≡ b

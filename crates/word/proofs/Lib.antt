@@ -1,0 +1,2 @@
+-- Laws of choices, of words and of flags.
+pub mod Choice

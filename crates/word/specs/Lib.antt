@@ -1,0 +1,4 @@
+-- What 16-bit words, flags and shifts promise.
+pub mod Word
+pub mod Flags
+pub mod Shifts
