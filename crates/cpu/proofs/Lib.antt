@@ -1,0 +1,3 @@
+-- Laws of the step and of its rows.
+pub mod StepLaws
+pub mod RowLaws

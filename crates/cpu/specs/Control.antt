@@ -1,0 +1,43 @@
+-- Document 01, "Control" and "Jumps": opcodes 000 to 007. pc is the opcode's address, next the address after the words.
+use Prim.Native.Nat.{ℕ, _+_, _*_, _/_, _%_}
+use mathlib.Core.Bool.{Bool, true, false, cond}
+use lib.Dec.{eqb}
+use Rattle.word.specs.declared.Flagged.{Flagged}
+use Rattle.word.specs.Word.{wrapAdd}
+use Rattle.cpu.specs.declared.Status.{Status}
+use Rattle.cpu.specs.declared.change.Change.{Change}
+use Rattle.cpu.specs.Change.{noRegister, heldOf, goesTo, writesTo}
+
+-- the flags with C at a value
+unfoldable pub withCarry : Flagged → Bool → Flagged
+withCarry f c = record { value = f .value; s = f .s; z = f .z; o = f .o; c = c }
+
+-- "Second word: bits 9-8 return register R4, R5, R6 or none"
+unfoldable pub returnRegister : ℕ → ℕ
+returnRegister second = cond (eqb (second / 256 % 4) 3) noRegister (second / 256 % 4 + 4)
+
+-- "bits 1-0: 0 none, 1 sets I, 2 clears I, 3 unspecified"; 3 is refused before the jump is made
+unfoldable pub jumpInterrupts : ℕ → Bool → Bool
+jumpInterrupts second i = cond (eqb (second % 4) 0) i (eqb (second % 4) 1)
+
+-- "bits 7-2 address bits 15-10"; "the third gives address bits 9-0"
+abbrev pub jumpTarget : ℕ → ℕ → ℕ
+jumpTarget second third = second / 4 % 64 * 1024 + third % 1024
+
+-- "The return register gets the address after it."
+unfoldable pub jumpOf : Status → (ℕ → ℕ) → ℕ → ℕ → Change
+jumpOf k read pc next =
+    writesTo
+    (jumpTarget (read (wrapAdd pc 1)) (read (wrapAdd pc 2)))
+    (returnRegister (read (wrapAdd pc 1)))
+    (heldOf k next)
+    (jumpInterrupts (read (wrapAdd pc 1)) (k .i))
+
+-- "EIS sets I, DIS clears it; SETC, CLRC likewise for C; HLT sets halted; TCI .. only move R7."; HLT's and SDBD's marks are the row's
+unfoldable pub controlOf : Status → (ℕ → ℕ) → ℕ → ℕ → ℕ → Change
+controlOf k read pc next d =
+    cond (eqb d 2) (goesTo next (heldOf k 0) true)
+    (cond (eqb d 3) (goesTo next (heldOf k 0) false)
+    (cond (eqb d 4) (jumpOf k read pc next)
+    (cond (eqb d 6) (goesTo next (withCarry (heldOf k 0) false) (k .i))
+    (cond (eqb d 7) (goesTo next (withCarry (heldOf k 0) true) (k .i)) (goesTo next (heldOf k 0) (k .i))))))

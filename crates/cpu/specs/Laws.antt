@@ -1,0 +1,2 @@
+-- What holds of every step.
+use Prim.Native.Nat.{ℕ}

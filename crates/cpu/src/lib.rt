@@ -1,0 +1,217 @@
+// The processor: its state, and one step of it.
+ghost use mathlib.Core.Path.{_≡_};
+ghost use Rattle.cpu.specs.State.{resetState, notedOf, interruptedRegisters, interruptedStatus};
+ghost use Rattle.cpu.specs.Change.{statusAfter};
+ghost use Rattle.cpu.specs.Step.{steppedOf, outcome, stepOf};
+use decode::Decoded;
+use decode::rows;
+use decode::rows::Row;
+use refusal::Refusal;
+
+mod branch;
+mod change;
+mod control;
+mod execute;
+mod operate;
+mod registers;
+mod single;
+mod store;
+
+use crate::change::Change;
+
+// The machine beside its registers: flags S Z O C I D, halted, ready, the previous INTRM level (true: high) and the pending
+// mark. `ready` says that a request is heard before the next instruction.
+pub struct Status {
+    pub halted: bool,
+    pub s: bool,
+    pub z: bool,
+    pub o: bool,
+    pub c: bool,
+    pub i: bool,
+    pub d: bool,
+    pub ready: bool,
+    pub level: bool,
+    pub pending: bool,
+}
+
+// R0 to R7 and the rest. It goes into a step by value and comes back by value.
+pub struct State {
+    pub registers: [u16; 8],
+    pub status: Status,
+}
+
+// The inputs of a step: the levels of INTRM and BUSRQ (true: high), and the external branch inputs, input n in bit n.
+pub struct Lines {
+    pub intrm: bool,
+    pub busrq: bool,
+    pub external: u16,
+}
+
+// What a step did, with its cycles, or why it was refused.
+pub enum StepAnswer {
+    Refused(Refusal),
+    Granted(u16),
+    Interrupted(u16),
+    Executed(u16),
+}
+
+pub struct Stepped {
+    pub state: State,
+    pub answer: StepAnswer,
+}
+
+// Where a reset starts, and where an interrupt is served.
+const RESET_ADDRESS: u16 = 0x1000;
+
+const INTERRUPT_ADDRESS: u16 = 0x1004;
+
+pub fn reset() -> State
+    ensures { λ r. ⌜ r ≡ resetState ⌝ }
+{
+    State {
+        registers: [0, 0, 0, 0, 0, 0, 0, RESET_ADDRESS],
+        status: Status {
+            halted: false,
+            s: false,
+            z: false,
+            o: false,
+            c: false,
+            i: false,
+            d: false,
+            ready: false,
+            level: true,
+            pending: false,
+        },
+    }
+}
+
+// The INTRM level recorded, and the pending mark.
+fn noted(status: Status, lines: Lines) -> Status
+    ensures { λ r. ⌜ r ≡ notedOf status lines ⌝ }
+{
+    Status {
+        halted: status.halted,
+        s: status.s,
+        z: status.z,
+        o: status.o,
+        c: status.c,
+        i: status.i,
+        d: status.d,
+        ready: status.ready,
+        level: lines.intrm,
+        pending: !lines.intrm & (status.pending | status.level),
+    }
+}
+
+// The registers after interrupt entry: R7 is pushed.
+fn interrupted_registers(registers: [u16; 8]) -> [u16; 8]
+    ensures { λ r. ⌜ r ≡ interruptedRegisters registers ⌝ }
+{
+    [
+        registers[0],
+        registers[1],
+        registers[2],
+        registers[3],
+        registers[4],
+        registers[5],
+        word::wrapping_add(registers[6], 1),
+        INTERRUPT_ADDRESS,
+    ]
+}
+
+// The marks after interrupt entry.
+fn interrupted_status(status: Status) -> Status
+    ensures { λ r. ⌜ r ≡ interruptedStatus status ⌝ }
+{
+    Status {
+        halted: status.halted,
+        s: status.s,
+        z: status.z,
+        o: status.o,
+        c: status.c,
+        i: status.i,
+        d: false,
+        ready: false,
+        level: status.level,
+        pending: false,
+    }
+}
+
+// The flags from what the instruction did, and the marks from its row.
+fn status_after(status: Status, row: Row, change: Change) -> Status
+    ensures { λ r. ⌜ r ≡ statusAfter status row change ⌝ }
+{
+    Status {
+        halted: row.halts,
+        s: change.s,
+        z: change.z,
+        o: change.o,
+        c: change.c,
+        i: change.i,
+        d: row.double,
+        ready: row.heard,
+        level: status.level,
+        pending: status.pending,
+    }
+}
+
+fn finished(registers: [u16; 8], status: Status, answer: StepAnswer) -> Stepped
+    ensures { λ r. ⌜ r ≡ steppedOf registers status answer ⌝ }
+{
+    Stepped {
+        state: State {
+            registers: registers,
+            status: status,
+        },
+        answer: answer,
+    }
+}
+
+// One step, in document 01's order. Nothing is changed before the last refusal is decided.
+pub fn step(state: State, mem: &mut [u16], lines: Lines) -> Stepped
+    ensures { λ r. ⌜ outcome r (now (mem .exit)) ≡ stepOf state (now (mem .entry)) lines ⌝ }
+{
+    let registers = state.registers;
+    let before = state.status;
+    let long = memory::is_too_long(mem);
+    if long {
+        return finished(
+            registers,
+            before,
+            StepAnswer::Refused(Refusal::MemoryTooLong),
+        );
+    }
+    let halted = before.halted;
+    if halted {
+        return finished(registers, before, StepAnswer::Refused(Refusal::Halted));
+    }
+    let status = noted(before, lines);
+    let granted = status.ready & !lines.busrq;
+    if granted {
+        return finished(registers, status, StepAnswer::Granted(rows::GRANT_CYCLES));
+    }
+    let interrupted = status.ready & (status.i & status.pending);
+    if interrupted {
+        memory::poke(mem, registers[6], registers[7]);
+        let entered = interrupted_registers(registers);
+        return finished(
+            entered,
+            interrupted_status(status),
+            StepAnswer::Interrupted(rows::INTERRUPT_CYCLES),
+        );
+    }
+    let pc = registers[7];
+    let decoded = decode::decode_at(mem, pc, status.d);
+    let Decoded::Known(instr) = decoded else {
+        return finished(registers, before, StepAnswer::Refused(Refusal::Unspecified));
+    };
+    let row = rows::row_of(instr, status.d);
+    let next = word::wrapping_add(pc, row.words as u16);
+    let change = execute::execute(&registers, status, mem, pc, next, lines.external, instr);
+    let cycles = row.cycles as u16 - change.saved;
+    finished(
+        registers::written(registers, change),
+        status_after(status, row, change),
+        StepAnswer::Executed(cycles),
+    )
+}
