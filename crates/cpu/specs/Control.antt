@@ -33,11 +33,28 @@ jumpOf k read pc next =
     (heldOf k next)
     (jumpInterrupts (read (wrapAdd pc 1)) (k .i))
 
--- "EIS sets I, DIS clears it; SETC, CLRC likewise for C; HLT sets halted; TCI .. only move R7."; HLT's and SDBD's marks are the row's
+-- "EIS sets I, DIS clears it"
+abbrev pub eisOf : Status → ℕ → Change
+eisOf k next = goesTo next (heldOf k 0) true
+
+abbrev pub disOf : Status → ℕ → Change
+disOf k next = goesTo next (heldOf k 0) false
+
+-- "SETC, CLRC likewise for C"
+abbrev pub setcOf : Status → ℕ → Change
+setcOf k next = goesTo next (withCarry (heldOf k 0) true) (k .i)
+
+abbrev pub clrcOf : Status → ℕ → Change
+clrcOf k next = goesTo next (withCarry (heldOf k 0) false) (k .i)
+
+-- "TCI .. only move R7"; so do HLT and SDBD, whose marks are the row's
+abbrev pub moveOn : Status → ℕ → Change
+moveOn k next = goesTo next (heldOf k 0) (k .i)
+
+-- "000 HLT; 001 002 003 005 006 007 SDBD EIS DIS TCI CLRC SETC; 004 jumps": numbered by d
 unfoldable pub controlOf : Status → (ℕ → ℕ) → ℕ → ℕ → ℕ → Change
 controlOf k read pc next d =
-    cond (eqb d 2) (goesTo next (heldOf k 0) true)
-    (cond (eqb d 3) (goesTo next (heldOf k 0) false)
+    cond (eqb d 2) (eisOf k next)
+    (cond (eqb d 3) (disOf k next)
     (cond (eqb d 4) (jumpOf k read pc next)
-    (cond (eqb d 6) (goesTo next (withCarry (heldOf k 0) false) (k .i))
-    (cond (eqb d 7) (goesTo next (withCarry (heldOf k 0) true) (k .i)) (goesTo next (heldOf k 0) (k .i))))))
+    (cond (eqb d 6) (clrcOf k next) (cond (eqb d 7) (setcOf k next) (moveOn k next)))))

@@ -57,9 +57,24 @@ sourceOf r read pc next double row s = cond (ltb row 8) (plainOf (operandOf r ne
 unfoldable pub destinationOf : List ℕ → ℕ → Fetched → ℕ → ℕ
 destinationOf r next g d = cond (eqb d (g .pointer)) (g .moved) (operandOf r next d)
 
--- MOVR sets S Z only; "MVI, MVO, GSWD set none."
+-- the rows' results, where f is the destination operand with the old flags and y the operand
+-- "MOVR, logic, .. set S Z only."
+abbrev pub movrOf : Flagged → ℕ → Flagged
+movrOf f y = setSZ y f
+
+-- "MVI, MVO, GSWD set none."
+abbrev pub mviOf : Flagged → ℕ → Flagged
+mviOf f y = record { value = y; s = f .s; z = f .z; o = f .o; c = f .c }
+
+abbrev pub andOf : Flagged → ℕ → Flagged
+andOf f y = setSZ (bitAnd (f .value) y) f
+
+abbrev pub xorOf : Flagged → ℕ → Flagged
+xorOf f y = setSZ (bitXor (f .value) y) f
+
+-- the first row of each six: from a register MOVR, from memory MVI
 unfoldable pub transferOf : ℕ → Flagged → ℕ → Flagged
-transferOf row f y = cond (ltb row 8) (setSZ y f) (record { value = y; s = f .s; z = f .z; o = f .o; c = f .c })
+transferOf row f y = cond (ltb row 8) (movrOf f y) (mviOf f y)
 
 -- "080 0C0 100 140 180 1C0: MOVR ADDR SUBR CMPR ANDR XORR"; "280 2C0 300 340 380 3C0: MVI ADD SUB CMP AND XOR"
 unfoldable pub operationOf : ℕ → Flagged → ℕ → Flagged
@@ -67,8 +82,7 @@ operationOf row f y =
     cond (eqb (row % 8) 2) (transferOf row f y)
     (cond (eqb (row % 8) 3) (addOf (f .value) y)
     (cond (eqb (row % 8) 4) (subtractOf (f .value) y)
-    (cond (eqb (row % 8) 5) (compareOf (f .value) y)
-    (cond (eqb (row % 8) 6) (setSZ (bitAnd (f .value) y) f) (setSZ (bitXor (f .value) y) f)))))
+    (cond (eqb (row % 8) 5) (compareOf (f .value) y) (cond (eqb (row % 8) 6) (andOf f y) (xorOf f y)))))
 
 -- the destination with the result of the operation, its pointer moved
 abbrev pub operated : ℕ → Fetched → ℕ → Flagged → Bool → Change

@@ -7,7 +7,7 @@ use Rattle.refusal.specs.declared.Refusal.{Refusal}
 use Rattle.refusal.specs.declared.Refusal.the-variants.{MemoryTooLong, Halted, Unspecified as UnspecifiedForm}
 use Rattle.refusal.specs.Refusals.{refusalNumber}
 use Rattle.word.specs.Word.{wrapAdd}
-use Rattle.memory.specs.Memory.{peekOf, pokeOf, tooLong}
+use Rattle.memory.specs.Memory.{peekOf, tooLong}
 use Rattle.decode.specs.declared.Instr.{Instr}
 use Rattle.decode.specs.declared.Decoded.{Decoded}
 use Rattle.decode.specs.declared.Decoded.the-variants.{Unspecified, Known}
@@ -25,38 +25,36 @@ use Rattle.cpu.specs.Store.{Store, keep, put, Effect, stored}
 use Rattle.cpu.specs.Execute.{executeOf}
 use Rattle.cpu.specs.Answer.{Reported, refused, answered, reported}
 
--- all that a step leaves: the state, what it reports, and the memory
-pub record Outcome : Type 0 where
+-- what a step does: the state that it leaves, what it reports, and at most one store
+pub record Action : Type 0 where
   pub state : State
   pub answer : Reported
-  pub memory : List ℕ
+  pub store : Store
 
--- the outcome that a value of the code and the memory at its return stand for
-abbrev pub outcome : Stepped → List ℕ → Outcome
-outcome x m = record { state = x .state; answer = reported (x .answer); memory = m }
-
--- a state and an answer side by side
-abbrev pub steppedOf : List ℕ → Status → StepAnswer → Stepped
-steppedOf r k a = record { state = record { registers = r; status = k }; answer = a }
-
--- a refusal hands back the given state, its INTRM level and mark too, and leaves the memory
-unfoldable pub refuse : State → List ℕ → Refusal → Outcome
-refuse st m r = record { state = st; answer = refused (refusalNumber r); memory = m }
+-- a refusal hands back the given state, its INTRM level and mark too, and stores nothing
+unfoldable pub refuse : State → Refusal → Action
+refuse st r = record { state = st; answer = refused (refusalNumber r); store = keep }
 
 -- Item 3: "the bus is granted, 1 cycle, nothing else changes"; k has the level and the mark recorded
-unfoldable pub granted : List ℕ → Status → List ℕ → Outcome
-granted r k m = record { state = record { registers = r; status = k }; answer = answered 3 1; memory = m }
+unfoldable pub granted : List ℕ → Status → Action
+granted r k = record { state = record { registers = r; status = k }; answer = answered 3 1; store = keep }
 
 -- Item 4: "word at R6 := R7, R6 + 1, R7 := $1004, pending, ready and D clear, 12 cycles"
-abbrev pub push : List ℕ → Store
-push r = put (getD r 6 0) (getD r 7 0)
-
-unfoldable pub interrupted : List ℕ → Status → List ℕ → Outcome
-interrupted r k m =
+unfoldable pub interrupted : List ℕ → Status → Action
+interrupted r k =
     record {
       state = record { registers = interruptedRegisters r; status = interruptedStatus k };
       answer = answered 4 12;
-      memory = stored m (push r);
+      store = put (getD r 6 0) (getD r 7 0);
+    }
+
+-- Item 5: "one instruction. Ready is then its row's 'heard' mark."
+unfoldable pub executed : List ℕ → Status → Row → Effect → Action
+executed r k row e =
+    record {
+      state = record { registers = registersAfter r (e .change); status = statusAfter k row (e .change) };
+      answer = answered 5 (row .cycles - e .change .saved);
+      store = e .store;
     }
 
 -- the effect of the instruction at R7, whose row is given
@@ -64,30 +62,43 @@ unfoldable pub effectAt : List ℕ → Status → List ℕ → Lines → Instr �
 effectAt r k m l i row =
     executeOf r k (peekOf m) (getD r 7 0) (wrapAdd (getD r 7 0) (row .words)) (l .external) i
 
--- Item 5: "one instruction. Ready is then its row's 'heard' mark."
-unfoldable pub executed : List ℕ → Status → List ℕ → Row → Effect → Outcome
-executed r k m row e =
-    record {
-      state = record { registers = registersAfter r (e .change); status = statusAfter k row (e .change) };
-      answer = answered 5 (row .cycles - e .change .saved);
-      memory = stored m (e .store);
-    }
-
 -- refusal 3: "step meets an unspecified form"; st is the state given, k its status with the level and the mark recorded
-abbrev pub instructionStep : State → Status → List ℕ → Lines → Decoded → Outcome
-instructionStep st k m l Unspecified = refuse st m UnspecifiedForm
+abbrev pub instructionStep : State → Status → List ℕ → Lines → Decoded → Action
+instructionStep st k m l Unspecified = refuse st UnspecifiedForm
 instructionStep st k m l (Known i) =
-    executed (st .registers) k m (rowOf i (k .d)) (effectAt (st .registers) k m l i (rowOf i (k .d)))
+    executed (st .registers) k (rowOf i (k .d)) (effectAt (st .registers) k m l i (rowOf i (k .d)))
 
 -- Items 3 to 5: "ready and BUSRQ low", "ready, I set and pending", else the instruction at R7
-unfoldable pub boundary : State → Status → List ℕ → Lines → Outcome
+unfoldable pub boundary : State → Status → List ℕ → Lines → Action
 boundary st k m l =
-    cond (k .ready && not (l .busrq)) (granted (st .registers) k m)
-    (cond (k .ready && (k .i && k .pending)) (interrupted (st .registers) k m)
+    cond (k .ready && not (l .busrq)) (granted (st .registers) k)
+    (cond (k .ready && (k .i && k .pending)) (interrupted (st .registers) k)
     (instructionStep st k m l (decodeAt (peekOf m) (getD (st .registers) 7 0) (k .d))))
 
 -- Item 1: "memory length, then halted"; item 2: the INTRM level and mark are noted
+unfoldable pub actionOf : State → List ℕ → Lines → Action
+actionOf st m l =
+    cond (tooLong m) (refuse st MemoryTooLong)
+    (cond (st .status .halted) (refuse st Halted) (boundary st (notedOf (st .status) l) m l))
+
+-- all that a step leaves: the state, what it reports, and the memory
+pub record Outcome : Type 0 where
+  pub state : State
+  pub answer : Reported
+  pub memory : List ℕ
+
+-- the one place where a step's store is made
+abbrev pub made : List ℕ → Action → Outcome
+made m a = record { state = a .state; answer = a .answer; memory = stored m (a .store) }
+
+-- one step
 unfoldable pub stepOf : State → List ℕ → Lines → Outcome
-stepOf st m l =
-    cond (tooLong m) (refuse st m MemoryTooLong)
-    (cond (st .status .halted) (refuse st m Halted) (boundary st (notedOf (st .status) l) m l))
+stepOf st m l = made m (actionOf st m l)
+
+-- the outcome that the code's answer and the memory at its return stand for: the step's contract says that it is `stepOf`
+abbrev pub outcome : Stepped → List ℕ → Outcome
+outcome x m = record { state = x .state; answer = reported (x .answer); memory = m }
+
+-- the code's answer from its parts
+abbrev pub steppedOf : List ℕ → Status → StepAnswer → Stepped
+steppedOf r k a = record { state = record { registers = r; status = k }; answer = a }

@@ -1,2 +1,4 @@
 -- Laws of choices, of words and of flags.
 pub mod Choice
+pub mod WordLaws
+pub mod FlagLaws

@@ -1,0 +1,100 @@
+-- The laws of `specs/Laws`, but for soundness: by the ways that a step can go.
+use Prim.Native.Nat.{ℕ, _-_, _≤_, _<_, _%_}
+use mathlib.Core.Path.{_≡_, refl, ap, sym, subst, _∙_}
+use mathlib.Core.Bool.{Bool, true, false, not, cond, Bool·beq}
+use mathlib.Core.List.{List}
+use native.Mathlib.Omega.{arith}
+use lib.Dec.{eqb, ltb, lit≤}
+use lib.ListN.{length, getD}
+use Rattle.word.specs.Word.{wrapAdd}
+use Rattle.word.proofs.Choice.{cond-true, cond-false}
+use Rattle.memory.specs.Memory.{peekOf, pokeOf}
+use Rattle.memory.proofs.Laws.{poke-laws}
+use Rattle.decode.specs.declared.Instr.{Instr}
+use Rattle.decode.specs.Rows.{rowOf}
+use Rattle.decode.proofs.Laws.{row-bounds}
+use Rattle.cpu.specs.declared.Status.{Status}
+use Rattle.cpu.specs.declared.State.{State}
+use Rattle.cpu.specs.declared.Lines.{Lines}
+use Rattle.cpu.specs.Store.{Store, keep, put, Effect, stored}
+use Rattle.cpu.specs.Answer.{Reported, refused, answered}
+use Rattle.cpu.specs.Step.{Action, refuse, granted, interrupted, executed, effectAt, actionOf, made, stepOf}
+use Rattle.cpu.specs.Laws.{RefusedKeepsAll, KeepsLength, ChangesOneWord, Costs, EveryCost}
+use Rattle.cpu.proofs.StepLaws.{by-action}
+use Rattle.cpu.proofs.RowLaws.{cost-least}
+
+-- an answer that is no refusal
+apart : {A : Type 0} {kind cycles n : ℕ} → answered kind cycles ≡ refused n → A
+apart e = let z : _≡_ {A = ℕ} 0 1 = cc in absurd (omega arith)
+
+pub refused-keeps-all : RefusedKeepsAll
+unfolding stepOf refuse granted interrupted executed
+refused-keeps-all st m l n =
+    by-action (λ (a : Action). a .answer ≡ refused n → (a .state ≡ st) × (stored m (a .store) ≡ m)) st m l
+    (λ r e. (refl, refl))
+    (λ k e. apart e)
+    (λ k e. apart e)
+    (λ k i e. apart e)
+
+stored-length : (m : List ℕ) (s : Store) → length (stored m s) ≡ length m
+stored-length m keep = refl
+stored-length m (put a w) = poke-laws .keeps-length m a w
+
+pub keeps-length : KeepsLength
+unfolding stepOf
+keeps-length st m l = stored-length m (actionOf st m l .store)
+
+stored-other : (m : List ℕ) (s : Store) (a : ℕ) → ((w : ℕ) → s ≡ put a w → ⊥) → peekOf (stored m s) a ≡ peekOf m a
+stored-other m keep a h = refl
+stored-other m (put b w) a h = poke-laws .other m b w a (λ e. h w (ap (λ (x : ℕ). put x w) e))
+
+pub changes-one-word : ChangesOneWord
+unfolding stepOf
+changes-one-word st m l a h = stored-other m (actionOf st m l .store) a h
+
+-- the costs of an answer that names a kind
+abbrev CostsIt : Reported → Type 0
+CostsIt (refused n) = Unit
+CostsIt (answered kind cycles) = Costs kind cycles
+
+grant-costs : Costs 3 1
+grant-costs =
+    record {
+      grant = λ e. refl;
+      interrupt = λ e. absurd (omega arith);
+      instruction = λ e. absurd (omega arith);
+      kinds = (lit≤ tt, lit≤ tt);
+    }
+
+interrupt-costs : Costs 4 12
+interrupt-costs =
+    record {
+      grant = λ e. absurd (omega arith);
+      interrupt = λ e. refl;
+      instruction = λ e. absurd (omega arith);
+      kinds = (lit≤ tt, lit≤ tt);
+    }
+
+instruction-costs : (n : ℕ) → 4 ≤ n → n ≤ 12 → Costs 5 n
+instruction-costs n p q =
+    record {
+      grant = λ e. absurd (omega arith);
+      interrupt = λ e. absurd (omega arith);
+      instruction = λ e. (p, q);
+      kinds = (lit≤ tt, lit≤ tt);
+    }
+
+every-cost-it : (st : State) (m : List ℕ) (l : Lines) → CostsIt (actionOf st m l .answer)
+unfolding refuse granted interrupted executed effectAt
+every-cost-it st m l =
+    by-action (λ (a : Action). CostsIt (a .answer)) st m l
+    (λ r. tt)
+    (λ k. grant-costs)
+    (λ k. interrupt-costs)
+    (λ k i.
+    let least = cost-least (st .registers) k (peekOf m) (getD (st .registers) 7 0) (wrapAdd (getD (st .registers) 7 0) (rowOf i (k .d) .words)) (l .external) i (k .d) in
+    instruction-costs _ least (omega (arith, row-bounds .most i (k .d))))
+
+pub every-cost : EveryCost
+unfolding stepOf
+every-cost st m l kind cycles e = subst CostsIt e (every-cost-it st m l)
