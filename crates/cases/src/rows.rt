@@ -1,0 +1,179 @@
+// The rows of a case. They have fixed columns, so that what a row says is read at its column, once its form is known to be right:
+//
+//     0      7      14   19   24   29   34   39   44   49   54     61  65     72   77
+//     before SZOCID hrlp R0   R1   R2   R3   R4   R5   R6   R7   | i b eeee | nnnnn aaaa=wwww aaaa=wwww ..
+//     after  SZOCID hrlp R0   R1   R2   R3   R4   R5   R6   R7   | EXECUTED 08 aaaa=wwww ..
+ghost use Prim.Native.Nat.{_<_};
+use crate::text;
+use crate::text::word_at;
+use cpu::Lines;
+use cpu::State;
+use cpu::Status;
+
+// Each word of the memory that a case does not name.
+const BACKGROUND: u16 = 0x5A5A;
+
+// An answer as a case writes it: the first letter of its name, and its cycles or the refusal's number.
+pub(crate) struct Answer {
+    pub kind: u8,
+    pub number: u16,
+}
+
+// An empty row, or one that starts with `#`.
+pub(crate) fn is_remark(row: &[u8]) -> bool {
+    (row.len() == 0) | (text::byte_at(row, 0) == b'#')
+}
+
+pub(crate) fn is_name(row: &[u8]) -> bool {
+    text::fits(row, b"case ")
+}
+
+// The case's name, or the whole row where it names none.
+pub(crate) fn name_of(row: &[u8]) -> &[u8] {
+    if is_name(row) {
+        text::from_column(row, 5)
+    } else {
+        row
+    }
+}
+
+pub(crate) fn is_before(row: &[u8]) -> bool {
+    text::fits(
+        row,
+        b"before SZOCID hrlp #### #### #### #### #### #### #### #### | 1 1 #### | 99999",
+    )
+        & are_words(words_of(row))
+}
+
+pub(crate) fn is_after(row: &[u8]) -> bool {
+    text::fits(
+        row,
+        b"after  SZOCID hrlp #### #### #### #### #### #### #### #### | ",
+    )
+        & is_answer(row)
+        & are_words(stores_of(row))
+}
+
+// Whether the words at the row's end are well written.
+fn are_words(words: &[u8]) -> bool {
+    let mut well = words.len() % 10 == 0;
+    for i in 0..words.len() / 10 {
+        well = well & text::fits(text::from_column(words, i * 10), b" ####=####");
+    }
+    well
+}
+
+// Makes the memory that the step is given: the case's words, and the background elsewhere.
+pub(crate) fn lay_before(memory: &mut [u16], before: &[u8]) {
+    fill(memory);
+    put_words(memory, words_of(before));
+}
+
+// Makes the memory that the step should leave: the same, with the case's stores.
+pub(crate) fn lay_after(memory: &mut [u16], before: &[u8], after: &[u8]) {
+    lay_before(memory, before);
+    put_words(memory, stores_of(after));
+}
+
+fn fill(memory: &mut [u16]) {
+    let mut i = 0;
+    while i < memory.len() {
+        memory[i] = BACKGROUND;
+        i += 1;
+    }
+}
+
+fn put_words(memory: &mut [u16], words: &[u8]) {
+    for i in 0..words.len() / 10 {
+        let word = text::from_column(words, i * 10);
+        put_word(memory, word_at(word, 1), word_at(word, 6));
+    }
+}
+
+fn put_word(memory: &mut [u16], address: u16, word: u16) {
+    let at = address as usize;
+    if at < memory.len() {
+        memory[at] = word;
+    }
+}
+
+pub(crate) fn state_of(row: &[u8]) -> State {
+    State {
+        registers: registers_of(row),
+        status: status_of(row),
+    }
+}
+
+fn registers_of(row: &[u8]) -> [u16; 8] {
+    [
+        word_at(row, 19),
+        word_at(row, 24),
+        word_at(row, 29),
+        word_at(row, 34),
+        word_at(row, 39),
+        word_at(row, 44),
+        word_at(row, 49),
+        word_at(row, 54),
+    ]
+}
+
+fn status_of(row: &[u8]) -> Status {
+    Status {
+        s: text::byte_at(row, 7) == b'S',
+        z: text::byte_at(row, 8) == b'Z',
+        o: text::byte_at(row, 9) == b'O',
+        c: text::byte_at(row, 10) == b'C',
+        i: text::byte_at(row, 11) == b'I',
+        d: text::byte_at(row, 12) == b'D',
+        halted: text::byte_at(row, 14) == b'h',
+        ready: text::byte_at(row, 15) == b'r',
+        level: text::byte_at(row, 16) == b'l',
+        pending: text::byte_at(row, 17) == b'p',
+    }
+}
+
+pub(crate) fn lines_of(row: &[u8]) -> Lines {
+    Lines {
+        intrm: text::byte_at(row, 61) == b'1',
+        busrq: text::byte_at(row, 63) == b'1',
+        external: word_at(row, 65),
+    }
+}
+
+pub(crate) fn length_of(row: &[u8]) -> usize {
+    text::large_at(row, 72)
+}
+
+pub(crate) fn words_of(row: &[u8]) -> &[u8] {
+    text::from_column(row, 77)
+}
+
+// How many columns the answer's name takes, from 61 on.
+fn name_width(row: &[u8]) -> usize
+    ensures { λ r. ⌜ r < 12 ⌝ }
+{
+    match text::byte_at(row, 61) {
+        b'E' => 8,
+        b'I' => 11,
+        _ => 7,
+    }
+}
+
+fn is_answer(row: &[u8]) -> bool {
+    let answer = text::from_column(row, 61);
+    text::fits(answer, b"REFUSED 99")
+        | text::fits(answer, b"GRANTED 99")
+        | text::fits(answer, b"INTERRUPTED 99")
+        | text::fits(answer, b"EXECUTED 99")
+}
+
+pub(crate) fn answer_of(row: &[u8]) -> Answer {
+    Answer {
+        kind: text::byte_at(row, 61),
+        number: text::small_at(row, 62 + name_width(row)),
+    }
+}
+
+pub(crate) fn stores_of(row: &[u8]) -> &[u8] {
+    text::from_column(row, 64 + name_width(row))
+}

@@ -1,0 +1,22 @@
+-- The C interface page, "Answers": every result as 64 bits.
+use Prim.Native.Nat.{ℕ, _+_, _*_}
+use mathlib.Core.Bool.{Bool}
+use lib.Dec.{ltb}
+use Rattle.cpu.specs.Answer.{Reported, refused, answered}
+
+-- "A value below 2^32 is a refusal"
+abbrev pub isRefusal : ℕ → Bool
+isRefusal result = ltb result 0x100000000
+
+-- "255 where a buffer is shorter than its table says"
+abbrev pub shortBuffer : ℕ
+shortBuffer = 255
+
+-- "the high 32 bits are the kind, the low 32 the value (0 where the table names none)"
+unfoldable pub successWord : ℕ → ℕ → ℕ
+successWord kind value = kind * 0x100000000 + value
+
+-- a refusal is document 01's number, and a step's kinds are its numbers 3, 4 and 5
+abbrev pub answerWord : Reported → ℕ
+answerWord (refused n) = n
+answerWord (answered kind cycles) = successWord kind cycles

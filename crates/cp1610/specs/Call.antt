@@ -1,0 +1,53 @@
+-- The C interface page, its table: what each call answers and leaves.
+use Prim.Native.Nat.{ℕ}
+use mathlib.Core.Bool.{Bool, cond}
+use mathlib.Core.List.{List}
+use lib.Dec.{ltb}
+use lib.ListN.{length}
+use Rattle.cpu.specs.State.{resetState}
+use Rattle.cpu.specs.Step.{Outcome, stepOf}
+use Rattle.cp1610.specs.Words.{unpacked, packed, linesOf}
+use Rattle.cp1610.specs.Answers.{isRefusal, shortBuffer, successWord, answerWord}
+
+-- all that a call leaves which takes a state: its result and the state's words
+pub record StateCalled : Type 0 where
+  pub result : ℕ
+  pub state : List ℕ
+
+abbrev pub stateCalled : ℕ → List ℕ → StateCalled
+stateCalled result state = record { result = result; state = state }
+
+-- and one which takes a memory too
+pub record Called : Type 0 where
+  pub result : ℕ
+  pub state : List ℕ
+  pub memory : List ℕ
+
+abbrev pub called : ℕ → List ℕ → List ℕ → Called
+called result state memory = record { result = result; state = state; memory = memory }
+
+-- "State: 18 words"
+abbrev pub isShort : List ℕ → Bool
+isShort words = ltb (length words) 18
+
+-- "A refused call alters nothing at all": a buffer after the call, by the call's result
+abbrev pub unlessRefused : ℕ → List ℕ → List ℕ → List ℕ
+unlessRefused result before after = cond (isRefusal result) before after
+
+-- document 01's reset, "kind 1"; a short state is "tested before all else; nothing is altered"
+unfoldable pub resetCall : List ℕ → StateCalled
+resetCall words =
+    cond (isShort words) (stateCalled shortBuffer words) (stateCalled (successWord 1 0) (packed words resetState))
+
+-- the outcome of a step as the caller sees it: "kind 3 grant, 4 interrupt, 5 instruction; value = cycles"
+abbrev pub handedBack : List ℕ → Outcome → Called
+handedBack words o =
+    called
+    (answerWord (o .answer))
+    (unlessRefused (answerWord (o .answer)) words (packed words (o .state)))
+    (o .memory)
+
+-- document 01's step of the state that the words stand for, with the lines that the number stands for
+unfoldable pub stepCall : List ℕ → List ℕ → ℕ → Called
+stepCall words m lines =
+    cond (isShort words) (called shortBuffer words m) (handedBack words (stepOf (unpacked words) m (linesOf lines)))

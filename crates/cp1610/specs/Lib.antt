@@ -1,0 +1,4 @@
+-- What the C interface promises: docs/C-INTERFACE.md, called the C interface page here, as definitions. Read Call first.
+pub mod Words
+pub mod Answers
+pub mod Call

@@ -1,0 +1,45 @@
+// Answers as 64 bits: a refusal is its number, and a success has its kind in the high half and its value in the low one.
+ghost use mathlib.Core.Path.{_≡_};
+ghost use Rattle.cpu.specs.Answer.{reported};
+ghost use Rattle.cp1610.specs.Answers.{isRefusal, successWord, answerWord};
+use cpu::StepAnswer;
+
+// A buffer shorter than its table says.
+pub const SHORT_BUFFER: u64 = 255;
+
+// A success, where a call has one kind only.
+pub const DONE: u16 = 1;
+
+// The kinds of a step.
+const GRANTED: u16 = 3;
+
+const INTERRUPTED: u16 = 4;
+
+const EXECUTED: u16 = 5;
+
+// Half of the 64 bits: every number below is a refusal's.
+const HALF: u64 = 0x1_0000_0000;
+
+pub fn success(kind: u16, value: u32) -> u64
+    ensures { λ r. ⌜ r ≡ successWord kind value ⌝ }
+{
+    (kind as u64) * HALF + (value as u64)
+}
+
+pub fn is_refusal(result: u64) -> bool
+    ensures { λ r. ⌜ r ≡ isRefusal result ⌝ }
+{
+    result < HALF
+}
+
+// What a step answers.
+pub fn step_word(answer: StepAnswer) -> u64
+    ensures { λ r. ⌜ r ≡ answerWord (reported answer) ⌝ }
+{
+    match answer {
+        StepAnswer::Refused(refusal) => refusal::number(refusal) as u64,
+        StepAnswer::Granted(cycles) => success(GRANTED, cycles as u32),
+        StepAnswer::Interrupted(cycles) => success(INTERRUPTED, cycles as u32),
+        StepAnswer::Executed(cycles) => success(EXECUTED, cycles as u32),
+    }
+}
