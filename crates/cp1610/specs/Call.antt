@@ -6,7 +6,7 @@ use lib.Dec.{ltb}
 use lib.ListN.{length}
 use Rattle.cpu.specs.State.{resetState}
 use Rattle.cpu.specs.Step.{Outcome, stepOf}
-use Rattle.cp1610.specs.Words.{unpacked, packed, linesOf}
+use Rattle.cp1610.specs.Words.{stateLength, unpacked, packed, linesOf}
 use Rattle.cp1610.specs.Answers.{isRefusal, shortBuffer, successWord, answerWord}
 
 -- all that a call leaves which takes a state: its result and the state's words
@@ -26,9 +26,9 @@ pub record Called : Type 0 where
 abbrev pub called : ℕ → List ℕ → List ℕ → Called
 called result state memory = record { result = result; state = state; memory = memory }
 
--- "State: 18 words"
+-- "a buffer is shorter than its table says"
 abbrev pub isShort : List ℕ → Bool
-isShort words = ltb (length words) 18
+isShort words = ltb (length words) stateLength
 
 -- "A refused call alters nothing at all": a buffer after the call, by the call's result
 abbrev pub unlessRefused : ℕ → List ℕ → List ℕ → List ℕ

@@ -8,6 +8,10 @@ use Rattle.cpu.specs.declared.Status.{Status}
 use Rattle.cpu.specs.declared.State.{State}
 use Rattle.cpu.specs.declared.Lines.{Lines}
 
+-- "A state is 18 words of 16 bits."
+abbrev pub stateLength : ℕ
+stateLength = 18
+
 -- "words 0 to 7 are R0 to R7"
 abbrev pub eight : List ℕ → List ℕ
 eight l =
@@ -66,7 +70,7 @@ statusWords k =
 
 -- "A buffer longer than the table says is taken; the items past what is named stay."
 unfoldable pub packed : List ℕ → State → List ℕ
-packed words st = eight (st .registers) ++ statusWords (st .status) ++ drop 18 words
+packed words st = eight (st .registers) ++ statusWords (st .status) ++ drop stateLength words
 
 -- "bit 0 the INTRM level (1 high), bit 1 the BUSRQ level (1 high), bits 16 to 31 the external branch inputs 0 to 15; the other bits are ignored"
 unfoldable pub linesOf : ℕ → Lines

@@ -3,7 +3,7 @@
 ghost use mathlib.Core.Path.{_≡_};
 ghost use Rattle.cp1610.specs.Call.{stateCalled, called, resetCall, stepCall};
 
-mod answer;
+mod answers;
 mod words;
 
 // The state that a machine starts from.
@@ -11,27 +11,29 @@ mod words;
 pub extern "C" fn cp1610_reset(state: &mut [u16]) -> u64
     ensures { λ r. ⌜ stateCalled r (now (state .exit)) ≡ resetCall (now (state .entry)) ⌝ }
 {
-    if state.len() < words::STATE_WORDS {
-        return answer::SHORT_BUFFER;
+    if state.len() < words::STATE_LENGTH {
+        return answers::SHORT_BUFFER;
     }
     words::pack(state, cpu::reset());
-    answer::success(answer::DONE, 0)
+    answers::success(answers::DONE, 0)
 }
 
-// One step of the processor.
+// One step of the processor. The state's words are written only once it is known that the step was not refused.
 #[no_mangle]
 pub extern "C" fn cp1610_step(state: &mut [u16], mem: &mut [u16], lines: u32) -> u64
     ensures { λ r. ⌜ called r (now (state .exit)) (now (mem .exit)) ≡ stepCall (now (state .entry)) (now (mem .entry)) lines ⌝ }
 {
-    if state.len() < words::STATE_WORDS {
-        return answer::SHORT_BUFFER;
+    if state.len() < words::STATE_LENGTH {
+        return answers::SHORT_BUFFER;
     }
     let stepped = cpu::step(words::unpack(state), mem, words::lines_of(lines));
-    let result = answer::step_word(stepped.answer);
-    let refused = answer::is_refusal(result);
+    let answer = stepped.answer;
+    let result = answers::step_word(answer);
+    let refused = answers::is_refusal(result);
     if refused {
         return result;
     }
-    words::pack(state, stepped.state);
+    let after = stepped.state;
+    words::pack(state, after);
     result
 }

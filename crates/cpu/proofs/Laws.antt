@@ -1,14 +1,13 @@
 -- The laws of `specs/Laws`, but for soundness: by the ways that a step can go.
-use Prim.Native.Nat.{ℕ, _-_, _≤_, _<_, _%_}
-use mathlib.Core.Path.{_≡_, refl, ap, sym, subst, _∙_}
-use mathlib.Core.Bool.{Bool, true, false, not, cond, Bool·beq}
+use Prim.Native.Nat.{ℕ, _≤_}
+use mathlib.Core.Path.{_≡_, refl, ap, sym, subst}
+use mathlib.Core.Bool.{Bool, true, false, true≢false}
 use mathlib.Core.List.{List}
 use native.Mathlib.Omega.{arith}
-use lib.Dec.{eqb, ltb, lit≤}
+use lib.Dec.{lit≤}
 use lib.ListN.{length, getD}
 use Rattle.word.specs.Word.{wrapAdd}
-use Rattle.word.proofs.Choice.{cond-true, cond-false}
-use Rattle.memory.specs.Memory.{peekOf, pokeOf}
+use Rattle.memory.specs.Memory.{peekOf, tooLong}
 use Rattle.memory.proofs.Laws.{poke-laws}
 use Rattle.decode.specs.declared.Instr.{Instr}
 use Rattle.decode.specs.Rows.{rowOf}
@@ -16,11 +15,12 @@ use Rattle.decode.proofs.Laws.{row-bounds}
 use Rattle.cpu.specs.declared.Status.{Status}
 use Rattle.cpu.specs.declared.State.{State}
 use Rattle.cpu.specs.declared.Lines.{Lines}
+use Rattle.cpu.specs.State.{notedOf}
 use Rattle.cpu.specs.Store.{Store, keep, put, Effect, stored}
-use Rattle.cpu.specs.Answer.{Reported, refused, answered}
+use Rattle.cpu.specs.Answer.{Reported, refused, answered, cyclesOf, isUnspecified}
 use Rattle.cpu.specs.Step.{Action, refuse, granted, interrupted, executed, effectAt, actionOf, made, stepOf}
 use Rattle.cpu.specs.Laws.{RefusedKeepsAll, KeepsLength, ChangesOneWord, Costs, EveryCost}
-use Rattle.cpu.proofs.StepLaws.{by-action}
+use Rattle.cpu.proofs.StepLaws.{at-boundary, by-boundary, by-action}
 use Rattle.cpu.proofs.RowLaws.{cost-least}
 
 -- an answer that is no refusal
@@ -98,3 +98,48 @@ every-cost-it st m l =
 pub every-cost : EveryCost
 unfolding stepOf
 every-cost st m l kind cycles e = subst CostsIt e (every-cost-it st m l)
+
+-- a step that is not refused by 3 costs a cycle or more, where neither the memory nor a halt refuses it
+pub step-charges : (st : State) (m : List ℕ) (l : Lines) → tooLong m ≡ false → st .status .halted ≡ false → isUnspecified (stepOf st m l .answer) ≡ false → 1 ≤ cyclesOf (stepOf st m l .answer)
+unfolding stepOf refuse granted interrupted executed effectAt
+step-charges st m l p q =
+    let k = notedOf (st .status) l in
+    subst (λ (a : Action). isUnspecified (a .answer) ≡ false → 1 ≤ cyclesOf (a .answer)) (sym (at-boundary st m l k refl p q))
+    (by-boundary (λ (a : Action). isUnspecified (a .answer) ≡ false → 1 ≤ cyclesOf (a .answer)) st k m l
+    (λ e. absurd (true≢false e))
+    (λ e. lit≤ tt)
+    (λ e. lit≤ tt)
+    (λ i e.
+    let least = cost-least (st .registers) k (peekOf m) (getD (st .registers) 7 0) (wrapAdd (getD (st .registers) 7 0) (rowOf i (k .d) .words)) (l .external) i (k .d) in
+    omega arith))
+
+-- the cycles that a step answers are at most 12, and 1 or more where it is not refused
+abbrev Charged : Reported → Type 0
+Charged (refused n) = Unit
+Charged (answered kind cycles) = (1 ≤ cycles) × (cycles ≤ 12)
+
+pub step-charged : (st : State) (m : List ℕ) (l : Lines) → Charged (stepOf st m l .answer)
+unfolding stepOf refuse granted interrupted executed effectAt
+step-charged st m l =
+    by-action (λ (a : Action). Charged (a .answer)) st m l
+    (λ r. tt)
+    (λ k. (lit≤ tt, lit≤ tt))
+    (λ k. (lit≤ tt, lit≤ tt))
+    (λ k i.
+    let least = cost-least (st .registers) k (peekOf m) (getD (st .registers) 7 0) (wrapAdd (getD (st .registers) 7 0) (rowOf i (k .d) .words)) (l .external) i (k .d) in
+    (omega arith, omega (arith, row-bounds .most i (k .d))))
+
+charged-most : (a : Reported) → Charged a → cyclesOf a ≤ 12
+charged-most (refused n) p = lit≤ tt
+charged-most (answered kind cycles) p = p .1
+
+pub cycles-most : (st : State) (m : List ℕ) (l : Lines) → cyclesOf (stepOf st m l .answer) ≤ 12
+cycles-most st m l = charged-most (stepOf st m l .answer) (step-charged st m l)
+
+-- a step that costs nothing was refused, and changes nothing
+pub uncharged-keeps-all : (st : State) (m : List ℕ) (l : Lines) → cyclesOf (stepOf st m l .answer) ≡ 0 → (stepOf st m l .state ≡ st) × (stepOf st m l .memory ≡ m)
+uncharged-keeps-all st m l z = go (stepOf st m l .answer) refl (step-charged st m l) z
+  where
+    go : (a : Reported) → stepOf st m l .answer ≡ a → Charged a → cyclesOf a ≡ 0 → (stepOf st m l .state ≡ st) × (stepOf st m l .memory ≡ m)
+    go (refused n) e c y = refused-keeps-all st m l n e
+    go (answered kind cycles) e c y = absurd (omega arith)

@@ -143,9 +143,10 @@ module _ (r : List ℕ) (k : Status) (read : ℕ → ℕ) (pc next external : �
   unfolding Fetches fetchOf immediateOf throughOf stackOf autoOf
   fetch-low double s =
       cond-both Fetches (eqb s 0) (plain-low _ (hm _))
-      (cond-both Fetches (eqb s 7) (plain-low _ (cond-both Word double (join-low _ _) (hm _)))
       (cond-both Fetches (ltb s 4) (plain-low _ (cond-both Word double (join-low _ _) (hm _)))
-      (cond-both Fetches (eqb s 6) (hm _, sub-low _ _) (cond-both Fetches double (join-low _ _, add-low _ _) (hm _, add-low _ _)))))
+      (cond-both Fetches (eqb s 6) (hm _, sub-low _ _)
+      (cond-both Fetches (eqb s 7) (plain-low _ (cond-both Word double (join-low _ _) (hm _)))
+      (cond-both Fetches double (join-low _ _, add-low _ _) (hm _, add-low _ _)))))
 
   source-low : (double : Bool) (row s : ℕ) → Fetches (sourceOf r read pc next double row s)
   unfolding sourceOf

@@ -35,7 +35,7 @@ module _ (st : State) (m : List ℕ) (l : Lines) where
 
   -- what a boundary of a machine that is not refused by 1 or 2 leads to; k is the status with INTRM noted
   module _ (k : Status) (noted : k ≡ notedOf (st .status) l) (p : tooLong m ≡ false) (q : st .status .halted ≡ false) where
-    at-boundary : actionOf st m l ≡ boundary st k m l
+    pub at-boundary : actionOf st m l ≡ boundary st k m l
     unfolding actionOf
     at-boundary = cond-false _ _ p ∙ cond-false _ _ q ∙ ap (λ (n : Status). boundary st n m l) (sym noted)
 
@@ -59,24 +59,37 @@ module _ (st : State) (m : List ℕ) (l : Lines) where
         pub step-executes : (i : Instr) → decodeAt (peekOf m) (getD (st .registers) 7 0) (k .d) ≡ Known i → stepOf st m l ≡ made m (executed (st .registers) k (rowOf i (k .d)) (effectAt (st .registers) k m l i (rowOf i (k .d))))
         step-executes i e = step-is st m l (at-instruction ∙ ap (instructionStep st k m l) e)
 
--- what holds of each way that a step can go holds of the step
+-- what holds of each way that a boundary can go holds of the boundary
+pub by-boundary :
+  (P : Action → Type 0)
+  (st : State) (k : Status) (m : List ℕ) (l : Lines) →
+  P (refuse st UnspecifiedForm) →
+  P (granted (st .registers) k) →
+  P (interrupted (st .registers) k) →
+  ((i : Instr) → P (executed (st .registers) k (rowOf i (k .d)) (effectAt (st .registers) k m l i (rowOf i (k .d))))) →
+  P (boundary st k m l)
+unfolding boundary
+by-boundary P st k m l refuses grants interrupts executes =
+    cond-both P (k .ready && not (l .busrq)) grants
+    (cond-both P (k .ready && (k .i && k .pending)) interrupts
+    (decoded (decodeAt (peekOf m) (getD (st .registers) 7 0) (k .d))))
+  where
+    decoded : (x : Decoded) → P (instructionStep st k m l x)
+    decoded Unspecified = refuses
+    decoded (Known i) = executes i
+
+-- and so of the step
 pub by-action :
-    (P : Action → Type 0)
-    (st : State) (m : List ℕ) (l : Lines) →
-    ((r : Refusal) → P (refuse st r)) →
-    ((k : Status) → P (granted (st .registers) k)) →
-    ((k : Status) → P (interrupted (st .registers) k)) →
-    ((k : Status) (i : Instr) → P (executed (st .registers) k (rowOf i (k .d)) (effectAt (st .registers) k m l i (rowOf i (k .d))))) →
-    P (actionOf st m l)
-unfolding actionOf boundary
+  (P : Action → Type 0)
+  (st : State) (m : List ℕ) (l : Lines) →
+  ((r : Refusal) → P (refuse st r)) →
+  ((k : Status) → P (granted (st .registers) k)) →
+  ((k : Status) → P (interrupted (st .registers) k)) →
+  ((k : Status) (i : Instr) → P (executed (st .registers) k (rowOf i (k .d)) (effectAt (st .registers) k m l i (rowOf i (k .d))))) →
+  P (actionOf st m l)
+unfolding actionOf
 by-action P st m l refuses grants interrupts executes =
     let k = notedOf (st .status) l in
     cond-both P (tooLong m) (refuses MemoryTooLong)
     (cond-both P (st .status .halted) (refuses Halted)
-    (cond-both P (k .ready && not (l .busrq)) (grants k)
-    (cond-both P (k .ready && (k .i && k .pending)) (interrupts k)
-    (decoded (decodeAt (peekOf m) (getD (st .registers) 7 0) (k .d))))))
-  where
-    decoded : (x : Decoded) → P (instructionStep st (notedOf (st .status) l) m l x)
-    decoded Unspecified = refuses UnspecifiedForm
-    decoded (Known i) = executes (notedOf (st .status) l) i
+    (by-boundary P st k m l (refuses UnspecifiedForm) (grants k) (interrupts k) (executes k)))

@@ -14,7 +14,7 @@ withCarry f c = record { value = f .value; s = f .s; z = f .z; o = f .o; c = c }
 
 -- "Second word: bits 9-8 return register R4, R5, R6 or none"
 unfoldable pub returnRegister : ℕ → ℕ
-returnRegister second = cond (eqb (second / 256 % 4) 3) noRegister (second / 256 % 4 + 4)
+returnRegister second = cond (eqb (second / 256) 3) noRegister (second / 256 + 4)
 
 -- "bits 1-0: 0 none, 1 sets I, 2 clears I, 3 unspecified"; 3 is refused before the jump is made
 unfoldable pub jumpInterrupts : ℕ → Bool → Bool
@@ -22,16 +22,16 @@ jumpInterrupts second i = cond (eqb (second % 4) 0) i (eqb (second % 4) 1)
 
 -- "bits 7-2 address bits 15-10"; "the third gives address bits 9-0"
 abbrev pub jumpTarget : ℕ → ℕ → ℕ
-jumpTarget second third = second / 4 % 64 * 1024 + third % 1024
+jumpTarget second third = second / 4 % 64 * 1024 + third
 
--- "The return register gets the address after it."
+-- the jump of a second and a third word; "The return register gets the address after it."
+abbrev pub jumpBy : Status → ℕ → ℕ → ℕ → Change
+jumpBy k next second third =
+    writesTo (jumpTarget second third) (returnRegister second) (heldOf k next) (jumpInterrupts second (k .i))
+
+-- "Both words count modulo 1024"
 unfoldable pub jumpOf : Status → (ℕ → ℕ) → ℕ → ℕ → Change
-jumpOf k read pc next =
-    writesTo
-    (jumpTarget (read (wrapAdd pc 1)) (read (wrapAdd pc 2)))
-    (returnRegister (read (wrapAdd pc 1)))
-    (heldOf k next)
-    (jumpInterrupts (read (wrapAdd pc 1)) (k .i))
+jumpOf k read pc next = jumpBy k next (read (wrapAdd pc 1) % 1024) (read (wrapAdd pc 2) % 1024)
 
 -- "EIS sets I, DIS clears it"
 abbrev pub eisOf : Status → ℕ → Change

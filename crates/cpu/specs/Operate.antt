@@ -45,9 +45,9 @@ immediateOf read pc double =
 unfoldable pub fetchOf : List ℕ → (ℕ → ℕ) → ℕ → Bool → ℕ → Fetched
 fetchOf r read pc double s =
     cond (eqb s 0) (plainOf (read (read (wrapAdd pc 1))))
-    (cond (eqb s 7) (plainOf (immediateOf read pc double))
     (cond (ltb s 4) (plainOf (throughOf read (registerOf r s) double))
-    (cond (eqb s 6) (stackOf read (registerOf r s)) (autoOf read s (registerOf r s) double))))
+    (cond (eqb s 6) (stackOf read (registerOf r s))
+    (cond (eqb s 7) (plainOf (immediateOf read pc double)) (autoOf read s (registerOf r s) double))))
 
 -- 080-1FF take a register, 280-3FF read
 unfoldable pub sourceOf : List ℕ → (ℕ → ℕ) → ℕ → ℕ → Bool → ℕ → ℕ → Fetched

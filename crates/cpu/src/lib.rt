@@ -3,6 +3,7 @@ ghost use mathlib.Core.Path.{_≡_};
 ghost use Rattle.cpu.specs.State.{resetState, notedOf, interruptedRegisters, interruptedStatus};
 ghost use Rattle.cpu.specs.Change.{statusAfter};
 ghost use Rattle.cpu.specs.Step.{steppedOf, outcome, stepOf};
+ghost use Rattle.cpu.specs.Answer.{isUnspecified, cyclesOf, reported};
 use decode::Decoded;
 use decode::rows;
 use decode::rows::Row;
@@ -214,4 +215,48 @@ pub fn step(state: State, mem: &mut [u16], lines: Lines) -> Stepped
         status_after(status, row, change),
         StepAnswer::Executed(cycles),
     )
+}
+
+// The cycles that a step answers, and 0 for a refused one.
+pub fn cycles(answer: StepAnswer) -> u16
+    ensures { λ r. ⌜ r ≡ cyclesOf (reported answer) ⌝ }
+{
+    match answer {
+        StepAnswer::Refused(_) => 0,
+        StepAnswer::Granted(n) => n,
+        StepAnswer::Interrupted(n) => n,
+        StepAnswer::Executed(n) => n,
+    }
+}
+
+// Whether a step from here would be refused for an unspecified form. Nothing is changed: a run looks so at the step that it does
+// not make.
+pub fn is_unspecified_next(state: State, mem: &[u16], lines: Lines) -> bool
+    ensures { λ r. ⌜ r ≡ isUnspecified (stepOf state (now (mem .entry)) lines .answer) ⌝ }
+{
+    let registers = state.registers;
+    let before = state.status;
+    let long = memory::is_too_long(mem);
+    if long {
+        return false;
+    }
+    let halted = before.halted;
+    if halted {
+        return false;
+    }
+    let status = noted(before, lines);
+    let granted = status.ready & !lines.busrq;
+    if granted {
+        return false;
+    }
+    let interrupted = status.ready & (status.i & status.pending);
+    if interrupted {
+        return false;
+    }
+    let pc = registers[7];
+    let decoded = decode::decode_at(mem, pc, status.d);
+    match decoded {
+        Decoded::Unspecified => true,
+        Decoded::Known(_) => false,
+    }
 }

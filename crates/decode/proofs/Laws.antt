@@ -18,8 +18,10 @@ abbrev CostsRow : Row → Type 0
 CostsRow r = Costs (r .cycles)
 
 control-costs : (d : ℕ) → CostsRow (controlRow d)
-unfolding controlRow heardRow
-control-costs d = cond-both CostsRow (eqb d 4) (lit≤ tt, lit≤ tt) (lit≤ tt, lit≤ tt)
+unfolding controlRow heardRow unheardRow
+control-costs d =
+    cond-both CostsRow (eqb d 0) (lit≤ tt, lit≤ tt)
+    (cond-both CostsRow (eqb d 1) (lit≤ tt, lit≤ tt) (cond-both CostsRow (eqb d 4) (lit≤ tt, lit≤ tt) (lit≤ tt, lit≤ tt)))
 
 shift-costs : (d : ℕ) → CostsRow (shiftRow d)
 unfolding shiftRow unheardRow

@@ -19,8 +19,9 @@ unheardRow words cycles = record { words = words; cycles = cycles; heard = false
 -- "000 HLT 4 n"; "001 002 003 005 006 007 SDBD EIS DIS TCI CLRC SETC 4 n"; "004 jumps, 3 words 12 h"; "HLT sets halted"; "SDBD sets D"
 unfoldable pub controlRow : ℕ → Row
 controlRow d =
-    cond (eqb d 4) (heardRow 3 12)
-    (record { words = 1; cycles = 4; heard = false; halts = eqb d 0; double = eqb d 1 })
+    cond (eqb d 0) (record { words = 1; cycles = 4; heard = false; halts = true; double = false })
+    (cond (eqb d 1) (record { words = 1; cycles = 4; heard = false; halts = false; double = true })
+    (cond (eqb d 4) (heardRow 3 12) (unheardRow 1 4)))
 
 -- "040-07F by eights: 6, by two 8, n"; "bit 2 set means by two"
 unfoldable pub shiftRow : ℕ → Row

@@ -5,10 +5,10 @@ ghost use Rattle.cp1610.specs.Answers.{isRefusal, successWord, answerWor
 use cpu::StepAnswer;
 
 // A buffer shorter than its table says.
-pub const SHORT_BUFFER: u64 = 255;
+pub(crate) const SHORT_BUFFER: u64 = 255;
 
 // A success, where a call has one kind only.
-pub const DONE: u16 = 1;
+pub(crate) const DONE: u16 = 1;
 
 // The kinds of a step.
 const GRANTED: u16 = 3;
@@ -17,23 +17,23 @@ const INTERRUPTED: u16 = 4;
 
 const EXECUTED: u16 = 5;
 
-// Half of the 64 bits: every number below is a refusal's.
-const HALF: u64 = 0x1_0000_0000;
+// A kind counts this much: kinds stand in the high half, and every number below is a refusal's.
+const HIGH_HALF: u64 = 0x1_0000_0000;
 
-pub fn success(kind: u16, value: u32) -> u64
+pub(crate) fn success(kind: u16, value: u32) -> u64
     ensures { λ r. ⌜ r ≡ successWord kind value ⌝ }
 {
-    (kind as u64) * HALF + (value as u64)
+    (kind as u64) * HIGH_HALF + (value as u64)
 }
 
-pub fn is_refusal(result: u64) -> bool
+pub(crate) fn is_refusal(result: u64) -> bool
     ensures { λ r. ⌜ r ≡ isRefusal result ⌝ }
 {
-    result < HALF
+    result < HIGH_HALF
 }
 
 // What a step answers.
-pub fn step_word(answer: StepAnswer) -> u64
+pub(crate) fn step_word(answer: StepAnswer) -> u64
     ensures { λ r. ⌜ r ≡ answerWord (reported answer) ⌝ }
 {
     match answer {

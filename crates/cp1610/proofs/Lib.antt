@@ -1,0 +1,3 @@
+-- Laws of the words that calls take and leave.
+pub mod WordLaws
+pub mod CallLaws

@@ -1,0 +1,136 @@
+// The run: steps with fixed lines, until a budget of cycles is spent, the machine halts, or the next step is refused for an
+// unspecified form.
+ghost use mathlib.Core.Path.{_≡_};
+ghost use Prim.Native.Nat.{_≤_};
+ghost use Rattle.cpu.specs.Step.{outcome, stepOf};
+ghost use Rattle.run.specs.Run.{causeOf, runOutcome, runOf};
+ghost use Rattle.run.specs.inner.Loop.{loopEnd, loopOf};
+use cpu::Lines;
+use cpu::State;
+use cpu::StepAnswer;
+use cpu::Stepped;
+use refusal::Refusal;
+
+// What ended a run.
+pub enum Cause {
+    Halted,
+    Unspecified,
+    Budget,
+}
+
+// Steps, cycles and the cause of the end, or why the run was refused.
+pub enum RunAnswer {
+    Refused(Refusal),
+    Ended(u32, u32, Cause),
+}
+
+pub struct Ran {
+    pub state: State,
+    pub answer: RunAnswer,
+}
+
+// Where the loop stopped: the steps made and their cycles, and the answer of the last step.
+struct Stopped {
+    state: State,
+    steps: u32,
+    cycles: u32,
+    answer: StepAnswer,
+}
+
+const BUDGET_LIMIT: u32 = 1000000;
+
+// Steps while the sum of their cycles is below the budget and none is refused. It is the only caller of the processor's step, so
+// that the compiler makes one function of both.
+fn make_steps(state: State, mem: &mut [u16], lines: Lines, budget: u32) -> Stopped
+    requires { ⌜ budget ≤ 1000000 ⌝ }
+    ensures { λ r. ⌜ loopEnd r (now (mem .exit)) ≡ loopOf state (now (mem .entry)) lines budget ⌝ }
+{
+    let mut last = Stepped {
+        state: state,
+        answer: StepAnswer::Granted(0),
+    };
+    let mut steps: u32 = 0;
+    let mut cycles: u32 = 0;
+    while cycles < budget {
+        let from = last.state;
+        last = cpu::step(from, mem, lines);
+        let answer = last.answer;
+        let spent = cpu::cycles(answer);
+        if spent == 0 {
+            break;
+        }
+        cycles = cycles + spent as u32;
+        steps = steps + 1;
+    }
+    let reached = last.state;
+    let answer = last.answer;
+    Stopped {
+        state: reached,
+        steps: steps,
+        cycles: cycles,
+        answer: answer,
+    }
+}
+
+// One step, by the run's loop: every step costs a cycle, so a budget of 1 makes one.
+pub fn one_step(state: State, mem: &mut [u16], lines: Lines) -> Stepped
+    ensures { λ r. ⌜ outcome r (now (mem .exit)) ≡ stepOf state (now (mem .entry)) lines ⌝ }
+{
+    let stopped = make_steps(state, mem, lines, 1);
+    let after = stopped.state;
+    let answer = stopped.answer;
+    Stepped {
+        state: after,
+        answer: answer,
+    }
+}
+
+// Why no more steps are made: halted, then unspecified, then budget.
+fn ended_by(state: State, mem: &[u16], lines: Lines) -> Cause
+    ensures { λ r. ⌜ r ≡ causeOf state (now (mem .entry)) lines ⌝ }
+{
+    let status = state.status;
+    let halted = status.halted;
+    if halted {
+        return Cause::Halted;
+    }
+    let unspecified = cpu::is_unspecified_next(state, mem, lines);
+    if unspecified {
+        Cause::Unspecified
+    } else {
+        Cause::Budget
+    }
+}
+
+fn refused(state: State, refusal: Refusal) -> Ran
+    ensures { λ r. ⌜ (r .state ≡ state) × (r .answer ≡ RunAnswer.Refused refusal) ⌝ }
+{
+    Ran {
+        state: state,
+        answer: RunAnswer::Refused(refusal),
+    }
+}
+
+// Runs for a budget of 0 to 1,000,000 cycles.
+pub fn run(state: State, mem: &mut [u16], lines: Lines, budget: u32) -> Ran
+    ensures { λ r. ⌜ runOutcome r (now (mem .exit)) ≡ runOf state (now (mem .entry)) lines budget ⌝ }
+{
+    let long = memory::is_too_long(mem);
+    if long {
+        return refused(state, Refusal::MemoryTooLong);
+    }
+    if BUDGET_LIMIT < budget {
+        return refused(state, Refusal::BudgetTooHigh);
+    }
+    let status = state.status;
+    let halted = status.halted;
+    if halted {
+        return refused(state, Refusal::Halted);
+    }
+    let stopped = make_steps(state, mem, lines, budget);
+    let after = stopped.state;
+    Ran {
+        state: after,
+        answer: RunAnswer::Ended(stopped.steps, stopped.cycles, ended_by(after, mem, lines)),
+    }
+}

@@ -1,0 +1,62 @@
+/* The CP1610 board kit's C interface: link with libcp1610.a. docs/C-INTERFACE.md is its page.
+ *
+ * Every function is total as long as each pointer is valid for its length, in items (a length of 0 may have any pointer), and
+ * no buffer that is written overlaps another. A buffer longer than said is taken; the items past what is named stay. */
+#ifndef CP1610_H
+#define CP1610_H
+
+#include <stddef.h>
+#include <stdint.h>
+
+#ifdef __cplusplus
+extern "C" {
+#endif
+
+/* The words of a state. In the words from CP1610_S on, anything but 0 counts as 1; they come back as 0 or 1. */
+enum cp1610_state {
+    CP1610_R0 = 0, /* R0 to R7 are words 0 to 7 */
+    CP1610_R7 = 7,
+    CP1610_S = 8,
+    CP1610_Z = 9,
+    CP1610_O = 10,
+    CP1610_C = 11,
+    CP1610_I = 12,
+    CP1610_D = 13,
+    CP1610_HALTED = 14,
+    CP1610_READY = 15,
+    CP1610_LEVEL = 16, /* the previous INTRM level, 1 is high */
+    CP1610_PENDING = 17,
+    CP1610_STATE_WORDS = 18
+};
+
+/* The lines of a step. External branch input n is bit 16 + n. */
+enum cp1610_lines { CP1610_INTRM_HIGH = 1, CP1610_BUSRQ_HIGH = 2 };
+
+/* The kinds of a success. */
+enum cp1610_kind { CP1610_DONE = 1, CP1610_GRANTED = 3, CP1610_INTERRUPTED = 4, CP1610_EXECUTED = 5 };
+
+/* The refusals: document 01's numbers, and 255 for a buffer that is too short. A refused call alters nothing. */
+enum cp1610_refusal {
+    CP1610_MEMORY_TOO_LONG = 1,
+    CP1610_IS_HALTED = 2,
+    CP1610_UNSPECIFIED = 3,
+    CP1610_SHORT_BUFFER = 255
+};
+
+/* An answer is a refusal below 2^32; else the high half is the kind and the low half the value. */
+static inline int cp1610_is_refused(uint64_t answer) { return answer >> 32 == 0; }
+static inline uint32_t cp1610_kind_of(uint64_t answer) { return (uint32_t)(answer >> 32); }
+static inline uint32_t cp1610_value_of(uint64_t answer) { return (uint32_t)answer; }
+
+/* The reset state, over the first 18 words. Kind 1. */
+uint64_t cp1610_reset(uint16_t *state, size_t state_length);
+
+/* One step. Kind 3 the bus was granted, 4 an interrupt was entered, 5 an instruction was executed; the value is the cycles.
+ * Refused by 1 for a memory above 65,536 words, by 2 for a halted machine, by 3 for an unspecified form. */
+uint64_t cp1610_step(uint16_t *state, size_t state_length, uint16_t *mem, size_t mem_length, uint32_t lines);
+
+#ifdef __cplusplus
+}
+#endif
+
+#endif
