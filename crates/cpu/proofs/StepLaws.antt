@@ -61,13 +61,13 @@ module _ (st : State) (m : List ℕ) (l : Lines) where
 
 -- what holds of each way that a boundary can go holds of the boundary
 pub by-boundary :
-  (P : Action → Type 0)
-  (st : State) (k : Status) (m : List ℕ) (l : Lines) →
-  P (refuse st UnspecifiedForm) →
-  P (granted (st .registers) k) →
-  P (interrupted (st .registers) k) →
-  ((i : Instr) → P (executed (st .registers) k (rowOf i (k .d)) (effectAt (st .registers) k m l i (rowOf i (k .d))))) →
-  P (boundary st k m l)
+    (P : Action → Type 0)
+    (st : State) (k : Status) (m : List ℕ) (l : Lines) →
+    P (refuse st UnspecifiedForm) →
+    P (granted (st .registers) k) →
+    P (interrupted (st .registers) k) →
+    ((i : Instr) → P (executed (st .registers) k (rowOf i (k .d)) (effectAt (st .registers) k m l i (rowOf i (k .d))))) →
+    P (boundary st k m l)
 unfolding boundary
 by-boundary P st k m l refuses grants interrupts executes =
     cond-both P (k .ready && not (l .busrq)) grants
@@ -80,13 +80,13 @@ by-boundary P st k m l refuses grants interrupts executes =
 
 -- and so of the step
 pub by-action :
-  (P : Action → Type 0)
-  (st : State) (m : List ℕ) (l : Lines) →
-  ((r : Refusal) → P (refuse st r)) →
-  ((k : Status) → P (granted (st .registers) k)) →
-  ((k : Status) → P (interrupted (st .registers) k)) →
-  ((k : Status) (i : Instr) → P (executed (st .registers) k (rowOf i (k .d)) (effectAt (st .registers) k m l i (rowOf i (k .d))))) →
-  P (actionOf st m l)
+    (P : Action → Type 0)
+    (st : State) (m : List ℕ) (l : Lines) →
+    ((r : Refusal) → P (refuse st r)) →
+    ((k : Status) → P (granted (st .registers) k)) →
+    ((k : Status) → P (interrupted (st .registers) k)) →
+    ((k : Status) (i : Instr) → P (executed (st .registers) k (rowOf i (k .d)) (effectAt (st .registers) k m l i (rowOf i (k .d))))) →
+    P (actionOf st m l)
 unfolding actionOf
 by-action P st m l refuses grants interrupts executes =
     let k = notedOf (st .status) l in

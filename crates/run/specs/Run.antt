@@ -41,6 +41,10 @@ pub record RunOutcome : Type 0 where
 abbrev pub runOutcome : Ran → List ℕ → RunOutcome
 runOutcome x m = record { state = x .state; answer = runReported (x .answer); memory = m }
 
+-- the code's answer to a refused run
+abbrev pub refusedRun : State → Refusal → Ran
+refusedRun st r = record { state = st; answer = Refused r }
+
 -- a refused run changes nothing
 unfoldable pub refuse : State → List ℕ → Refusal → RunOutcome
 refuse st m r = record { state = st; answer = refused (refusalNumber r); memory = m }

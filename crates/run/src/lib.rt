@@ -3,8 +3,8 @@
 ghost use mathlib.Core.Path.{_≡_};
 ghost use Prim.Native.Nat.{_≤_};
 ghost use Rattle.cpu.specs.Step.{outcome, stepOf};
-ghost use Rattle.run.specs.Run.{causeOf, runOutcome, runOf};
-ghost use Rattle.run.specs.inner.Loop.{loopEnd, loopOf};
+ghost use Rattle.run.specs.Run.{causeOf, refusedRun, runOutcome, runOf};
+ghost use Rattle.run.specs.inner.Loop.{stoppedOf, loopEnd, loopOf};
 use cpu::Lines;
 use cpu::State;
 use cpu::StepAnswer;
@@ -30,18 +30,31 @@ pub struct Ran {
 }
 
 // Where the loop stopped: the steps made and their cycles, and the answer of the last step.
-struct Stopped {
+struct Stop {
     state: State,
     steps: u32,
     cycles: u32,
     answer: StepAnswer,
 }
 
+fn stopped(last: Stepped, steps: u32, cycles: u32) -> Stop
+    ensures { λ r. ⌜ r ≡ stoppedOf last steps cycles ⌝ }
+{
+    let state = last.state;
+    let answer = last.answer;
+    Stop {
+        state: state,
+        steps: steps,
+        cycles: cycles,
+        answer: answer,
+    }
+}
+
 const BUDGET_LIMIT: u32 = 1000000;
 
 // Steps while the sum of their cycles is below the budget and none is refused. It is the only caller of the processor's step, so
 // that the compiler makes one function of both.
-fn make_steps(state: State, mem: &mut [u16], lines: Lines, budget: u32) -> Stopped
+fn make_steps(state: State, mem: &mut [u16], lines: Lines, budget: u32) -> Stop
     requires { ⌜ budget ≤ 1000000 ⌝ }
     ensures { λ r. ⌜ loopEnd r (now (mem .exit)) ≡ loopOf state (now (mem .entry)) lines budget ⌝ }
 {
@@ -57,19 +70,12 @@ fn make_steps(state: State, mem: &mut [u16], lines: Lines, budget: u32) -> Stopp
         let answer = last.answer;
         let spent = cpu::cycles(answer);
         if spent == 0 {
-            break;
+            return stopped(last, steps, cycles);
         }
         cycles = cycles + spent as u32;
         steps = steps + 1;
     }
-    let reached = last.state;
-    let answer = last.answer;
-    Stopped {
-        state: reached,
-        steps: steps,
-        cycles: cycles,
-        answer: answer,
-    }
+    stopped(last, steps, cycles)
 }
 
 // One step, by the run's loop: every step costs a cycle, so a budget of 1 makes one.
@@ -103,7 +109,7 @@ fn ended_by(state: State, mem: &[u16], lines: Lines) -> Cause
 }
 
 fn refused(state: State, refusal: Refusal) -> Ran
-    ensures { λ r. ⌜ (r .state ≡ state) × (r .answer ≡ RunAnswer.Refused refusal) ⌝ }
+    ensures { λ r. ⌜ r ≡ refusedRun state refusal ⌝ }
 {
     Ran {
         state: state,

@@ -7,7 +7,8 @@ use Rattle.cpu.specs.declared.State.{State}
 use Rattle.cpu.specs.declared.Lines.{Lines}
 use Rattle.cpu.specs.Answer.{Reported, answered, reported, cyclesOf}
 use Rattle.cpu.specs.Step.{Outcome, stepOf}
-use Rattle.run.specs.declared.Stopped.{Stopped}
+use Rattle.cpu.specs.declared.Stepped.{Stepped}
+use Rattle.run.specs.declared.Stop.{Stop}
 
 -- where the loop stopped
 pub record LoopEnd : Type 0 where
@@ -15,13 +16,17 @@ pub record LoopEnd : Type 0 where
   pub cycles : ℕ
   pub left : Outcome
 
-abbrev pub loopEnd : Stopped → List ℕ → LoopEnd
+abbrev pub loopEnd : Stop → List ℕ → LoopEnd
 loopEnd x m =
     record {
       steps = x .steps;
       cycles = x .cycles;
       left = record { state = x .state; answer = reported (x .answer); memory = m };
     }
+
+-- the code's place in the loop, from its parts
+abbrev pub stoppedOf : Stepped → ℕ → ℕ → Stop
+stoppedOf x steps cycles = record { state = x .state; steps = steps; cycles = cycles; answer = x .answer }
 
 -- what is left before the first step
 abbrev pub unstepped : State → List ℕ → Outcome
