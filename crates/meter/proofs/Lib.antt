@@ -1,0 +1,5 @@
+-- Laws of the walk and of the scan, the invariants of the loops, and demand 3.
+pub mod AnswerLaws
+pub mod WalkLaws
+pub mod ScanLaws
+pub mod Loops
