@@ -3,3 +3,6 @@ pub mod AnswerLaws
 pub mod WalkLaws
 pub mod ScanLaws
 pub mod Loops
+pub mod GrantLaws
+pub mod RowLaws
+pub mod StepLaws
