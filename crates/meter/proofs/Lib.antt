@@ -6,3 +6,6 @@ pub mod Loops
 pub mod GrantLaws
 pub mod RowLaws
 pub mod StepLaws
+pub mod ReadLaws
+pub mod FollowLaws
+pub mod Demand
