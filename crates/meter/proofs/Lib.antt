@@ -9,3 +9,4 @@ pub mod StepLaws
 pub mod ReadLaws
 pub mod FollowLaws
 pub mod Demand
+pub mod Instances

@@ -6,3 +6,4 @@ pub mod Meter
 pub mod Grants
 pub mod Reads
 pub mod Demand
+pub mod Instances
