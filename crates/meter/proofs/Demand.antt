@@ -1,5 +1,5 @@
 -- Demand 3 holds.
-use Prim.Native.Nat.{ℕ, suc, _-_, _≤_}
+use Prim.Native.Nat.{ℕ, suc}
 use mathlib.Core.Path.{_≡_, refl, ap, sym, subst, _∙_}
 use mathlib.Core.Bool.{Bool, true, false, cond}
 use mathlib.Core.List.{List, [], _∷_}
@@ -17,7 +17,7 @@ use Rattle.cpu.specs.Steps.{Moment, stepsFrom}
 use Rattle.meter.specs.Answer.{Answer, wait, over, Reported, refused, answered, Named}
 use Rattle.meter.specs.Walk.{limitOf, startAt, walkBy, walkOn, walkFrom}
 use Rattle.meter.specs.Meter.{answerFrom, waitOf, namedOf, regionOf}
-use Rattle.meter.specs.Grants.{pcOf, grants, beforeGrant, cyclesOfAll, Unrefused}
+use Rattle.meter.specs.Grants.{pcOf, Unrefused}
 use Rattle.meter.specs.Reads.{readsOn, readsFrom, Unstored}
 use Rattle.meter.specs.Demand.{Stands, RequestsLow, UnlessRefused, Waits, Foretells, NamedIs, Demand3}
 use Rattle.meter.proofs.WalkLaws.{walk-law}
@@ -81,17 +81,20 @@ module _ (st : State) (m : List ℕ) (ls : List Lines) (limit : ℕ) (stands : S
         ended = λ g. subst Unrefused (grant-laws .whole (stepsFrom st m ls) g) (r .unrefused);
       }
 
-  late : waitOf m (pcOf st) limit ≡ answered over → grants (stepsFrom st m ls) ≡ true → limitOf limit - 1 ≤ cyclesOfAll (beforeGrant (stepsFrom st m ls))
-  unfolding startAt readsOn walkOn walkFrom
-  late e g =
-      let k = answers m (pcOf st) limit e in
-      omega (
-        arith,
-        over-follows (suc (limitOf limit)) ls st m (peekOf m) (limitOf limit) (startAt (pcOf st)) (start (k .fits)) (k .walks) (omega arith) g,
-      )
-
   steps : Foretells st m ls limit
-  steps = record { answers = answers-walk m (pcOf st) limit; waits = waits; over = late }
+  unfolding startAt readsOn walkOn walkFrom
+  steps =
+      record {
+        answers = answers-walk m (pcOf st) limit;
+        waits = waits;
+        over =
+            λ e g.
+            let k = answers m (pcOf st) limit e in
+            omega (
+              arith,
+              over-follows (suc (limitOf limit)) ls st m (peekOf m) (limitOf limit) (startAt (pcOf st)) (start (k .fits)) (k .walks) (omega arith) g,
+            );
+      }
 
 regions : (m : List ℕ) (first last limit : ℕ) → UnlessRefused (NamedIs (answerFrom m limit) first (suc last)) (regionOf m first last limit)
 unfolding regionOf

@@ -13,8 +13,7 @@ fn longer_than(longest: LongestWait, cycles: u16, start: u16) -> LongestWait
     match longest {
         LongestWait::NoWait => LongestWait::Cycles(cycles, start),
         LongestWait::Cycles(most, at) => {
-            let longer = most < cycles;
-            if longer {
+            if most < cycles {
                 return LongestWait::Cycles(cycles, start);
             }
             LongestWait::Cycles(most, at)
