@@ -1,3 +1,4 @@
+-- `scan::longer`, by the answers of the walk.
 use borrow.Author.Needs.{needs}
 use Rattle.meter.proofs.scan.longer.Statement.{statement}
 use Rattle.meter.proofs.scan.longer.Tie as tie

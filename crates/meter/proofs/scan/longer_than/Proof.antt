@@ -1,3 +1,4 @@
+-- `scan::longer_than`, by whether there is a wait so far, and whether the new one is longer.
 use Rattle.meter.specs.Scan.{longerThan}
 use borrow.Author.Needs.{needs}
 use borrow.Author.Tests.{lt-ltb, le-ltb}

@@ -1,3 +1,4 @@
+-- `scan::lower`, by the answers of the walk.
 use borrow.Author.Needs.{needs}
 use Rattle.meter.proofs.scan.lower.Statement.{statement}
 use Rattle.meter.proofs.scan.lower.Tie as tie

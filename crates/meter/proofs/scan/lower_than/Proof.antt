@@ -1,3 +1,4 @@
+-- `scan::lower_than`, by whether a start is over the limit so far.
 use Rattle.meter.specs.Scan.{lowerThan}
 use borrow.Author.Needs.{needs}
 use Rattle.meter.proofs.scan.lower_than.Statement.{statement}

@@ -1,3 +1,4 @@
+-- `walk::limit_of`, by whether the limit is 0.
 use Rattle.meter.specs.Walk.{limitOf}
 use Rattle.meter.proofs.walk.limit_of.Statement.{statement}
 use Rattle.meter.proofs.walk.limit_of.Tie as tie

@@ -1,3 +1,4 @@
+-- `walk::start_at` is its definition.
 use mathlib.Core.Path.{refl}
 use Rattle.meter.specs.Walk.{startAt}
 use Rattle.meter.proofs.walk.start_at.Statement.{statement}
