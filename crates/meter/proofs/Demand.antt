@@ -1,6 +1,6 @@
 -- Demand 3 holds.
 use Prim.Native.Nat.{ℕ, suc}
-use mathlib.Core.Path.{_≡_, refl, ap, sym, subst, _∙_}
+use mathlib.Core.Path.{_≡_, refl, ap, subst}
 use mathlib.Core.Bool.{Bool, true, false, cond}
 use mathlib.Core.List.{List, [], _∷_}
 use native.Mathlib.Omega.{arith}
@@ -13,9 +13,9 @@ use Rattle.memory.specs.Memory.{peekOf, tooLong}
 use Rattle.cpu.specs.declared.State.{State}
 use Rattle.cpu.specs.declared.Lines.{Lines}
 use Rattle.cpu.specs.Step.{stepOf}
-use Rattle.cpu.specs.Steps.{Moment, stepsFrom}
-use Rattle.meter.specs.Answer.{Answer, wait, over, Reported, refused, answered, Named}
-use Rattle.meter.specs.Walk.{limitOf, startAt, walkBy, walkOn, walkFrom}
+use Rattle.cpu.specs.Steps.{stepsFrom}
+use Rattle.meter.specs.Answer.{Answer, wait, over, refused, answered}
+use Rattle.meter.specs.Walk.{limitOf, startAt, walkOn, walkFrom}
 use Rattle.meter.specs.Meter.{answerFrom, waitOf, namedOf, regionOf}
 use Rattle.meter.specs.Grants.{pcOf, Unrefused}
 use Rattle.meter.specs.Reads.{readsOn, readsFrom, Unstored}
@@ -24,7 +24,7 @@ use Rattle.meter.proofs.WalkLaws.{walk-law}
 use Rattle.meter.proofs.ScanLaws.{named-law}
 use Rattle.meter.proofs.GrantLaws.{grant-laws}
 use Rattle.meter.proofs.ReadLaws.{same-refl, reads-law}
-use Rattle.meter.proofs.FollowLaws.{Follows, Waited, wait-follows, over-follows}
+use Rattle.meter.proofs.FollowLaws.{Follows, wait-follows, over-follows}
 
 -- an answer that is no refusal: the memory is not too long, and the answer is the walk's
 record Answers (m : List ℕ) (a limit : ℕ) (x : Answer) : Type 0 where
@@ -87,7 +87,7 @@ module _ (st : State) (m : List ℕ) (ls : List Lines) (limit : ℕ) (stands : S
       record {
         answers = answers-walk m (pcOf st) limit;
         waits = waits;
-        over =
+        exceeds =
             λ e g.
             let k = answers m (pcOf st) limit e in
             omega (

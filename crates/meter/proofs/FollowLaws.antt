@@ -1,8 +1,8 @@
 -- The machine follows the walk: by induction on the walk's turns, with a step for each.
 use Prim.Native.Nat.{ℕ, zero, suc, _+_, _-_, _<_, _≤_}
 use mathlib.Core.Path.{_≡_, refl, ap, sym, subst, _∙_}
-use mathlib.Core.Bool.{Bool, true, false, true≢false}
-use mathlib.Core.List.{List, [], _∷_, _++_}
+use mathlib.Core.Bool.{true, false, true≢false}
+use mathlib.Core.List.{List, [], _∷_}
 use native.Mathlib.Omega.{arith}
 use lib.ListN.{length, getD}
 use Rattle.memory.specs.Memory.{peekOf}
@@ -13,16 +13,16 @@ use Rattle.decode.specs.Rows.{rowOf}
 use Rattle.decode.proofs.Laws.{row-bounds}
 use Rattle.cpu.specs.declared.State.{State}
 use Rattle.cpu.specs.declared.Lines.{Lines}
-use Rattle.cpu.specs.Answer.{Reported, answered}
+use Rattle.cpu.specs.Answer.{answered}
 use Rattle.cpu.specs.Step.{stepOf}
 use Rattle.cpu.specs.Steps.{Moment, stepsFrom}
 use Rattle.meter.specs.declared.walk.Place.{Place}
-use Rattle.meter.specs.Answer.{Answer, wait, over}
-use Rattle.meter.specs.Walk.{placeAfter, Turn, done, on, decodedTurn, turnAt, follow, walkBy}
+use Rattle.meter.specs.Answer.{wait, over}
+use Rattle.meter.specs.Walk.{placeAfter, Turn, done, on, turnAt, follow, walkBy}
 use Rattle.meter.specs.Grants.{isGrant, grants, beforeGrant, cyclesOfAll, Unrefused, instrSaves, savedAt, savedLast}
 use Rattle.meter.specs.Reads.{wordsRead, readsAfter, readsBy, SameAt, Unstored}
 use Rattle.meter.specs.Demand.{RequestsLow}
-use Rattle.meter.proofs.WalkLaws.{Goes, Hears, Exceeds, turn-goes, turn-hears, turn-exceeds}
+use Rattle.meter.proofs.WalkLaws.{turn-goes, turn-hears, turn-exceeds}
 use Rattle.meter.proofs.ReadLaws.{same-trans, decode-local}
 use Rattle.meter.proofs.RowLaws.{saves-most}
 use Rattle.meter.proofs.GrantLaws.{grants-now, before-now, grants-later, before-later, executed-later, cycles-more, unrefused-more, saved-more}

@@ -1,7 +1,7 @@
 -- Laws of a list of steps up to its first grant.
 use Prim.Native.Nat.{ℕ, _+_}
 use mathlib.Core.Path.{_≡_, refl, ap, sym, subst, _∙_}
-use mathlib.Core.Bool.{Bool, true, false, cond, _||_, true≢false}
+use mathlib.Core.Bool.{Bool, true, false, _||_, true≢false}
 use mathlib.Core.List.{List, [], _∷_, _++_}
 use Rattle.word.proofs.Choice.{cond-true, cond-false}
 use Rattle.cpu.specs.Answer.{Reported, answered}

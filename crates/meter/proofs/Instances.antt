@@ -1,10 +1,10 @@
 -- Demand 3 is not empty: each instance is computed.
-use Prim.Native.Nat.{ℕ, zero, suc, _<_}
-use mathlib.Core.Path.{_≡_, refl, ap, sym, subst, _∙_}
+use Prim.Native.Nat.{ℕ, zero, suc}
+use mathlib.Core.Path.{_≡_, refl}
 use mathlib.Core.List.{List, [], _∷_, _++_}
 use native.Mathlib.Omega.{arith}
 use native.Mathlib.Nat.{le-of-suc-le-suc}
-use lib.ListN.{length, getD}
+use lib.ListN.{getD}
 use Rattle.word.specs.Word.{wrapAdd, wrapSub}
 use Rattle.memory.specs.Memory.{peekOf, pokeOf}
 use Rattle.decode.specs.Decode.{lowInstruction, instructionOf, unspecifiedOf, decodeAt}

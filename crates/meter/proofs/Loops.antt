@@ -9,11 +9,11 @@ use Rattle.meter.specs.declared.Walked.{Walked}
 use Rattle.meter.specs.declared.walk.Place.{Place}
 use Rattle.meter.specs.declared.walk.Next.{Next}
 use Rattle.meter.specs.declared.walk.Next.the-variants.{Answer as Answers, Place as Goes}
-use Rattle.meter.specs.Answer.{Answer, Reported, answered, Longest, noWait, Lowest, noOver, Named, answerOf}
+use Rattle.meter.specs.Answer.{Answer, answered, Longest, noWait, Lowest, noOver, Named, answerOf}
 use Rattle.meter.specs.Walk.{limitOf, startAt, done, on, turned, turnAt, follow, walkOn, walkFrom}
 use Rattle.meter.specs.Scan.{longerOf, lowerOf, longestBy, lowestBy}
 use Rattle.meter.specs.Meter.{waitOf, namedOf, regionOf}
-use Rattle.meter.proofs.WalkLaws.{Adds, turn-adds, walk-law, wait-answers, limit-low}
+use Rattle.meter.proofs.WalkLaws.{turn-adds, walk-law, wait-answers}
 use Rattle.meter.proofs.ScanLaws.{longest-suc, lowest-suc, region-answers}
 
 -- the walk from a start, at a place of it

@@ -1,19 +1,17 @@
 -- The walk depends on the words that it reads, and on no others.
 use Prim.Native.Nat.{ℕ, zero, suc, _+_, _%_, _<_, _≤_}
-use mathlib.Core.Path.{_≡_, refl, ap, ap₂, sym, _∙_}
+use mathlib.Core.Path.{_≡_, refl, ap, _∙_}
 use mathlib.Core.Bool.{Bool, true, false, cond, _&&_}
 use mathlib.Core.List.{List, [], _∷_}
 use native.Mathlib.Omega.{arith}
 use lib.Dec.{eqb, leb}
-use lib.ListN.{getD}
 use Rattle.word.specs.Word.{wrapAdd}
-use Rattle.decode.specs.declared.Decoded.{Decoded}
 use Rattle.decode.specs.declared.Decoded.the-variants.{Unspecified, Known}
 use Rattle.decode.specs.Decode.{opcodeOf, fieldS, instructionOf, unspecifiedOf, decodeAt}
 use Rattle.meter.specs.declared.walk.Place.{Place}
 use Rattle.meter.specs.Walk.{Turn, done, on, turnAt}
 use Rattle.meter.specs.Reads.{wordsRead, readsAfter, readsBy, readsOn, SameAt}
-use Rattle.meter.proofs.WalkLaws.{Adds, turn-adds}
+use Rattle.meter.proofs.WalkLaws.{turn-adds}
 
 pub same-refl : (rest : List ℕ) (m : ℕ → ℕ) → SameAt rest m m
 same-refl [] m = tt

@@ -1,6 +1,6 @@
 -- Laws of the rows: an instruction that is not heard goes on in line, and only a branch saves cycles.
 use Prim.Native.Nat.{ℕ, _%_, _≤_}
-use mathlib.Core.Path.{_≡_, refl, ap, sym, _∙_}
+use mathlib.Core.Path.{_≡_, refl, sym, _∙_}
 use mathlib.Core.Bool.{Bool, true, false, cond, true≢false}
 use mathlib.Core.List.{List}
 use native.Mathlib.Omega.{arith}
@@ -8,11 +8,11 @@ use lib.Dec.{eqb, ltb, lit≤}
 use lib.ListN.{getD}
 use borrow.Author.Tests.{ne-eqb}
 use Rattle.word.specs.declared.Flagged.{Flagged}
-use Rattle.word.proofs.Choice.{cond-true, cond-false, cond-both}
+use Rattle.word.proofs.Choice.{cond-false, cond-both}
 use Rattle.decode.specs.declared.Instr.{Instr}
 use Rattle.decode.specs.declared.Instr.the-variants.{Control, Single, Shift, Branch, Store, Operate}
 use Rattle.decode.specs.declared.rows.Row.{Row}
-use Rattle.decode.specs.Rows.{heardRow, controlRow, isNopp, branchRow, readWords, readCycles, operateRow, rowOf}
+use Rattle.decode.specs.Rows.{heardRow, controlRow, isNopp, branchRow, operateRow, rowOf}
 use Rattle.decode.proofs.Laws.{row-bounds}
 use Rattle.cpu.specs.declared.Status.{Status}
 use Rattle.cpu.specs.declared.Lines.{Lines}

@@ -11,10 +11,10 @@ use lib.Dec.{ltb}
 use borrow.Author.Tests.{ltb-true, ltb-false, le-ltb}
 use Rattle.word.proofs.Choice.{cond-false}
 use Rattle.memory.specs.Memory.{tooLong}
-use Rattle.meter.specs.Answer.{Answer, wait, over, halts, unspecified, Reported, answered, Longest, noWait, longest, Lowest, noOver, overAt, Named}
+use Rattle.meter.specs.Answer.{Answer, wait, over, halts, unspecified, answered, Longest, noWait, longest, Lowest, noOver, overAt}
 use Rattle.meter.specs.Scan.{longerThan, longerOf, lowerThan, lowerOf, longestBy, lowestBy}
 use Rattle.meter.specs.Meter.{answerFrom, namedOf, regionOf}
-use Rattle.meter.specs.Demand.{LongestAt, LongestIs, LowestAt, LowestIs, NamedIs}
+use Rattle.meter.specs.Demand.{LongestIs, LowestIs, NamedIs}
 
 -- one start more
 module _ (answers : ℕ → Answer) (first start : ℕ) (h : first ≤ start) where

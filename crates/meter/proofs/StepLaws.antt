@@ -1,26 +1,23 @@
 -- One step of a machine that stands where the walk stands.
-use Prim.Native.Nat.{ℕ, _-_, _≤_, _<_}
-use mathlib.Core.Path.{_≡_, refl, ap, ap₂, sym, subst, _∙_}
+use Prim.Native.Nat.{ℕ, _-_}
+use mathlib.Core.Path.{_≡_, refl, ap, ap₂, sym, _∙_}
 use mathlib.Core.Bool.{Bool, true, false, not, _&&_}
-use mathlib.Core.List.{List, _∷_}
+use mathlib.Core.List.{List}
 use lib.Dec.{ltb}
-use lib.ListN.{length, getD}
+use lib.ListN.{getD}
 use Rattle.word.specs.Word.{wrapAdd}
 use Rattle.memory.specs.Memory.{peekOf, tooLong}
 use Rattle.decode.specs.declared.Instr.{Instr}
 use Rattle.decode.specs.declared.Decoded.the-variants.{Known}
-use Rattle.decode.specs.declared.rows.Row.{Row}
 use Rattle.decode.specs.Decode.{decodeAt}
 use Rattle.decode.specs.Rows.{rowOf}
 use Rattle.cpu.specs.declared.State.{State}
-use Rattle.cpu.specs.declared.Status.{Status}
 use Rattle.cpu.specs.declared.Lines.{Lines}
 use Rattle.cpu.specs.State.{notedOf}
-use Rattle.cpu.specs.Change.{registersAfter, statusAfter}
-use Rattle.cpu.specs.Answer.{Reported, answered}
+use Rattle.cpu.specs.Change.{statusAfter}
+use Rattle.cpu.specs.Answer.{answered}
 use Rattle.cpu.specs.Store.{Effect}
 use Rattle.cpu.specs.Step.{Outcome, granted, executed, effectAt, made, stepOf}
-use Rattle.cpu.specs.Steps.{Moment}
 use Rattle.cpu.proofs.StepLaws.{step-grants, step-executes}
 use Rattle.cpu.proofs.Laws.{keeps-length}
 use Rattle.meter.specs.declared.walk.Place.{Place}

@@ -1,5 +1,5 @@
 -- Laws of the walk: its turns by the way they go, and its equation with no count.
-use Prim.Native.Nat.{ℕ, zero, suc, _+_, _-_, _<_, _≤_}
+use Prim.Native.Nat.{ℕ, zero, suc, _+_, _<_, _≤_}
 use mathlib.Core.Path.{_≡_, refl, ap, sym, _∙_}
 use mathlib.Core.Bool.{Bool, true, false, cond}
 use mathlib.Core.List.{List}
@@ -7,7 +7,7 @@ use native.Mathlib.Omega.{arith}
 use lib.Dec.{eqb, ltb, lit≤}
 use borrow.Author.Tests.{ltb-true, ltb-false, lt-ltb, le-ltb}
 use Rattle.word.proofs.Choice.{cond-true, cond-false, cond-both}
-use Rattle.memory.specs.Memory.{peekOf, tooLong}
+use Rattle.memory.specs.Memory.{tooLong}
 use Rattle.decode.specs.declared.Instr.{Instr}
 use Rattle.decode.specs.declared.Decoded.{Decoded}
 use Rattle.decode.specs.declared.Decoded.the-variants.{Unspecified, Known}
@@ -16,8 +16,8 @@ use Rattle.decode.specs.Decode.{decodeAt}
 use Rattle.decode.specs.Rows.{rowOf}
 use Rattle.decode.proofs.Laws.{row-bounds}
 use Rattle.meter.specs.declared.walk.Place.{Place}
-use Rattle.meter.specs.Answer.{Answer, wait, over, halts, unspecified, Reported, answered}
-use Rattle.meter.specs.Walk.{limitOf, startAt, placeAfter, Turn, done, on, rowTurn, decodedTurn, turnAt, follow, walkBy, walkOn, walkFrom}
+use Rattle.meter.specs.Answer.{Answer, wait, over, halts, unspecified, answered}
+use Rattle.meter.specs.Walk.{limitOf, placeAfter, Turn, done, on, rowTurn, decodedTurn, turnAt, follow, walkBy, walkOn}
 use Rattle.meter.specs.Meter.{answerFrom, waitOf}
 
 -- a turn by what stands at its place

@@ -2,7 +2,7 @@
 -- second paragraph under "Wait meter" fixes the premise and the sums.
 use Prim.Native.Nat.{ℕ, suc, _-_, _<_, _≤_}
 use mathlib.Core.Path.{_≡_}
-use mathlib.Core.Bool.{Bool, true, false}
+use mathlib.Core.Bool.{true, false}
 use mathlib.Core.List.{List, [], _∷_}
 use lib.ListN.{length}
 use Rattle.memory.specs.Memory.{peekOf}
@@ -52,7 +52,7 @@ pub record Foretells (st : State) (m : List ℕ) (ls : List Lines) (limit : ℕ)
   pub waits : (w : ℕ) → waitOf m (pcOf st) limit ≡ answered (wait w) → Waits (stepsFrom st m ls) w
   -- "If the meter answered that the wait is over limit L, no grant comes before cycle L less 1."
   -- "L is the limit walked with, also where 0 was given."
-  pub over :
+  pub exceeds :
       waitOf m (pcOf st) limit ≡ answered over →
       grants (stepsFrom st m ls) ≡ true →
       limitOf limit - 1 ≤ cyclesOfAll (beforeGrant (stepsFrom st m ls))
@@ -98,8 +98,9 @@ pub record Demand3 : Type 0 where
   pub reads :
       (read : ℕ → ℕ) (limit : ℕ) (p : Place) →
       readsOn read limit p ≡ wordsRead read (p .address) ∷ readsAfter (readsOn read limit) (turnAt read limit p)
-  -- "Then make any list of steps from it, refused ones included, with the bus request low in each. .. The one further premise is that
-  -- no store changes a word that the walk reads later. This holds whatever INTRM and the external inputs do."
+  -- "Then make any list of steps from it, refused ones included, with the bus request low in each. Each step gets the state and memory
+  -- that the last one left, and nobody else writes them. The one further premise is that no store changes a word that the walk reads
+  -- later. This holds whatever INTRM and the external inputs do."
   pub steps :
       (st : State) (m : List ℕ) (ls : List Lines) (limit : ℕ) →
       Stands st →

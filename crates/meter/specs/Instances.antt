@@ -8,7 +8,7 @@ use Rattle.cpu.specs.declared.State.{State}
 use Rattle.cpu.specs.declared.Lines.{Lines}
 use Rattle.cpu.specs.Step.{stepOf}
 use Rattle.cpu.specs.Steps.{stepsFrom}
-use Rattle.meter.specs.Answer.{Answer, wait, over, Reported, answered, longest, overAt, Named}
+use Rattle.meter.specs.Answer.{Answer, wait, over, answered, longest, overAt}
 use Rattle.meter.specs.Walk.{limitOf}
 use Rattle.meter.specs.Meter.{waitOf, regionOf}
 use Rattle.meter.specs.Grants.{pcOf, grants, beforeGrant, cyclesOfAll}

@@ -1,6 +1,6 @@
 -- Document 01, "Wait meter": the walk from an address. The memory is a reader, from an address to the word there.
 use Prim.Native.Nat.{ℕ, zero, suc, _+_}
-use mathlib.Core.Bool.{Bool, true, false, cond}
+use mathlib.Core.Bool.{false, cond}
 use lib.Dec.{eqb, ltb}
 use Rattle.word.specs.Word.{wrapAdd}
 use Rattle.decode.specs.declared.Decoded.{Decoded}

@@ -3,7 +3,6 @@ use Prim.Native.Nat.{_-_}
 use mathlib.Core.Path.{sym, _∙_}
 use borrow.Author.Needs.{needs}
 use borrow.Author.Tests.{lt-ltb}
-use Rattle.word.proofs.Choice.{cond-true, cond-false}
 use Rattle.memory.specs.Memory.{peekOf}
 use Rattle.meter.specs.Meter.{waitOf}
 use Rattle.meter.proofs.WalkLaws.{limit-low}
