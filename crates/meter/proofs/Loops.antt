@@ -1,0 +1,86 @@
+-- The invariants of the meter's loops, and what a turn of each keeps. Each is a record, so that a proof names none of its arguments.
+use Prim.Native.Nat.{ℕ, suc, _+_, _-_, _<_, _≤_}
+use mathlib.Core.Path.{_≡_, refl, ap, sym, _∙_}
+use mathlib.Core.Bool.{false}
+use mathlib.Core.List.{List}
+use native.Mathlib.Omega.{arith}
+use Rattle.memory.specs.Memory.{peekOf, tooLong}
+use Rattle.meter.specs.declared.Walked.{Walked}
+use Rattle.meter.specs.declared.walk.Place.{Place}
+use Rattle.meter.specs.declared.walk.Next.{Next}
+use Rattle.meter.specs.declared.walk.Next.the-variants.{Answer as Answers, Place as Goes}
+use Rattle.meter.specs.Answer.{Answer, answered, Longest, noWait, Lowest, noOver, Named, answerOf}
+use Rattle.meter.specs.Walk.{limitOf, startAt, done, on, turned, turnAt, follow, walkOn, walkFrom}
+use Rattle.meter.specs.Scan.{longerOf, lowerOf, longestBy, lowestBy}
+use Rattle.meter.specs.Meter.{waitOf, namedOf, regionOf}
+use Rattle.meter.proofs.WalkLaws.{turn-adds, walk-law, wait-answers}
+use Rattle.meter.proofs.ScanLaws.{longest-suc, lowest-suc, region-answers}
+
+-- the walk from a start, at a place of it
+pub record Walking (read : ℕ → ℕ) (limit start : ℕ) (p : Place) : Type 0 where
+  pub same : walkOn read limit p ≡ walkFrom read limit start
+  pub low : p .sum ≤ limit
+  pub small : limit ≤ 4096
+
+pub walking : {read : ℕ → ℕ} {limit start : ℕ} {p : Place} → p ≡ startAt start → limit ≤ 4096 → Walking read limit start p
+unfolding walkFrom startAt
+walking e h = rw e (record { same = refl; low = omega arith; small = h })
+
+module _ {read : ℕ → ℕ} {limit start : ℕ} {p : Place} {t : Next} (k : Walking read limit start p) (e : turned t ≡ turnAt read limit p) where
+  pub walking-on : {q : Place} → t ≡ Goes q → Walking read limit start q
+  walking-on {q} g =
+      let h : turnAt read limit p ≡ on q = sym e ∙ ap turned g in
+      record {
+        same = sym (walk-law read limit p ∙ ap (follow (walkOn read limit)) h) ∙ k .same;
+        low = turn-adds read limit p h .room;
+        small = k .small;
+      }
+
+  pub walking-less : {q : Place} → t ≡ Goes q → limit - q .sum < limit - p .sum
+  walking-less g = let a = turn-adds read limit p (sym e ∙ ap turned g) in omega arith
+
+  pub walking-done : {w : Walked} → t ≡ Answers w → answerOf w ≡ walkFrom read limit start
+  walking-done {w} g =
+      let h : turnAt read limit p ≡ done (answerOf w) = sym e ∙ ap turned g in
+      sym (walk-law read limit p ∙ ap (follow (walkOn read limit)) h) ∙ k .same
+
+-- the end of the walk of the meter for an address
+pub wait-end : {x : Answer} (m : List ℕ) (a limit l : ℕ) → x ≡ walkFrom (peekOf m) l a → l ≡ limitOf limit → tooLong m ≡ false → limit ≤ 4096 → answered x ≡ waitOf m a limit
+wait-end m a limit l e r p q = ap answered (e ∙ ap (λ (n : ℕ). walkFrom (peekOf m) n a) r) ∙ sym (wait-answers m a limit p q)
+
+-- the scan of a region, at a start of it: what the starts before it name
+pub record Scanning (answers : ℕ → Answer) (first last start : ℕ) (l : Longest) (o : Lowest) : Type 0 where
+  pub longest : l ≡ longestBy (start - first) answers first
+  pub lowest : o ≡ lowestBy (start - first) answers first
+  pub from : first ≤ start
+  pub to : start ≤ last
+
+pub scanning : {answers : ℕ → Answer} {first last : ℕ} → first ≤ last → Scanning answers first last first noWait noOver
+unfolding longestBy lowestBy
+scanning {first = first} h =
+    let n : first - first ≡ 0 = omega arith in
+    record { longest = rw n; lowest = rw n; from = omega arith; to = h }
+
+module _ {answers : ℕ → Answer} {first last start : ℕ} {l l′ : Longest} {o o′ : Lowest} {x : Answer}
+    (k : Scanning answers first last start l o) (e : x ≡ answers start) (p : l′ ≡ longerOf l x start) (q : o′ ≡ lowerOf o x start) where
+  longest-more : l′ ≡ longestBy (suc (start - first)) answers first
+  longest-more = rw (longest-suc answers first start (k .from), ← k .longest, ← e) p
+
+  lowest-more : o′ ≡ lowestBy (suc (start - first)) answers first
+  lowest-more = rw (lowest-suc answers first start (k .from), ← k .lowest, ← e) q
+
+  pub scanning-on : start < last → Scanning answers first last (start + 1) l′ o′
+  scanning-on h =
+      let n : start + 1 - first ≡ suc (start - first) = omega (arith, k .from) in
+      record { longest = rw n longest-more; lowest = rw n lowest-more; from = omega (arith, k .from); to = omega arith }
+
+  pub scanning-end : last ≤ start → _≡_ {A = Named} (record { longest-wait = l′; lowest-over = o′ }) (namedOf answers first last)
+  unfolding namedOf
+  scanning-end h =
+      let n : suc last - first ≡ suc (start - first) = omega (arith, k .from, k .to) in
+      rw (n, longest-more, lowest-more)
+
+-- the end of the scan of the meter for a region
+pub region-end : {x : Named} (m : List ℕ) (first last limit l : ℕ) → x ≡ namedOf (walkFrom (peekOf m) l) first last → l ≡ limitOf limit → tooLong m ≡ false → first ≤ last → limit ≤ 4096 → answered x ≡ regionOf m first last limit
+region-end m first last limit l e r p q s =
+    ap answered (e ∙ ap (λ (n : ℕ). namedOf (walkFrom (peekOf m) n) first last) r) ∙ sym (region-answers m first last limit p q s)

@@ -1,0 +1,55 @@
+-- `walk::turn` goes by document 01's rules in their order, each a law of the walk's turn.
+use mathlib.Core.Path.{_≡_, sym, _∙_}
+use borrow.Author.Needs.{needs}
+use Rattle.memory.specs.Memory.{peekOf}
+use Rattle.meter.specs.Walk.{placeAfter, rowTurn, turnAt}
+use Rattle.meter.proofs.WalkLaws.{turn-unspecified, turn-row, row-over, row-halts, row-waits, row-goes}
+use Rattle.meter.proofs.walk.turn.Statement.{statement}
+use Rattle.meter.proofs.walk.turn.Tie as tie
+
+-- once the row is known, the turn is the row's
+module _ (c : tie.After-row-of) where
+  by-row : turnAt (peekOf (c .before .before .before .before .before .before .args .mem .now)) (c .before .before .before .before .before .before .args .limit) (c .before .before .before .before .before .before .args .place) ≡ rowTurn (c .before .before .before .before .before .before .args .limit) (c .before .before .before .before .before .before .args .place) (c .row-of .result)
+  by-row =
+      let a = c .before .before .before .before .before .before .args in
+      turn-row (peekOf (a .mem .now)) (a .limit) (a .place) (sym (c .before .before .before .before .decode-at .ensures) ∙ c .before .before .decoded .given .1) (c .row-of .ensures)
+
+returns : tie.Need-returns
+returns c =
+    let a = c .before .before .before .before .args in
+    sym (turn-unspecified (peekOf (a .mem .now)) (a .limit) (a .place) (sym (c .before .before .decode-at .ensures) ∙ c .enum-told .given .1))
+
+returns-2 : tie.Need-returns-2
+returns-2 c = sym (by-row (c .before .before .before) ∙ row-over _ _ _ (c .if1 .taken))
+
+returns-3 : tie.Need-returns-3
+returns-3 c = sym (by-row (c .before .before .before .before) ∙ row-halts _ _ _ (c .before .if1 .left) (c .if2 .taken))
+
+returns-4 : tie.Need-returns-4
+returns-4 c =
+    sym (by-row (c .before .before .before .before .before) ∙ row-waits _ _ _ (c .before .before .if1 .left) (c .before .if2 .left) (c .if3 .taken))
+
+returns-5 : tie.Need-returns-5
+unfolding placeAfter
+returns-5 c =
+    let b = c .before .before in
+    rw (c .wrapping-add .ensures)
+    (sym (by-row (b .before .before .before .before .before) ∙ row-goes _ _ _ (b .before .before .if1 .left) (b .before .if2 .left) (b .if3 .left)))
+
+pub turn-spec : {M : Type 1} → statement M
+turn-spec =
+    tie.close
+    (tie.spec
+    (λ c κs. search needs)
+    (λ c. search needs)
+    (λ c. search needs)
+    returns
+    (λ c κs. search needs)
+    (λ c. search needs)
+    (λ c. search needs)
+    returns-2
+    returns-3
+    returns-4
+    (λ c. search needs)
+    (λ c κs. search needs)
+    returns-5)

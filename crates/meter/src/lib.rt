@@ -1,0 +1,97 @@
+// The wait meter: after how many cycles a request is heard, from an address and over a region, found by a walk over the code.
+ghost use mathlib.Core.Path.{_≡_};
+ghost use Rattle.meter.specs.Answer.{waitReport, regionReport};
+ghost use Rattle.meter.specs.Meter.{waitOf, regionOf};
+use crate::walk::Next;
+use refusal::Refusal;
+
+mod scan;
+mod walk;
+
+// What the walk from an address answers.
+pub enum Walked {
+    // a request is heard after so many cycles
+    Wait(u16),
+    // the cycles are more than the limit
+    Over,
+    // the walk meets HLT
+    Halts,
+    // the walk meets an unspecified form, at this address
+    Unspecified(u16),
+}
+
+pub enum WaitAnswer {
+    Refused(Refusal),
+    Answered(Walked),
+}
+
+// The longest wait of a region and the lowest start that has it.
+pub enum LongestWait {
+    NoWait,
+    Cycles(u16, u16),
+}
+
+// The lowest start of a region whose wait is over the limit.
+pub enum LowestOver {
+    NoOver,
+    At(u16),
+}
+
+pub enum RegionAnswer {
+    Refused(Refusal),
+    Found(LongestWait, LowestOver),
+}
+
+// The meter for an address.
+pub fn wait(mem: &[u16], address: u16, limit: u16) -> WaitAnswer
+    ensures { λ r. ⌜ waitReport r ≡ waitOf (now (mem .entry)) address limit ⌝ }
+{
+    let long = memory::is_too_long(mem);
+    if long {
+        return WaitAnswer::Refused(Refusal::MemoryTooLong);
+    }
+    if walk::HIGHEST_LIMIT < limit {
+        return WaitAnswer::Refused(Refusal::LimitTooHigh);
+    }
+    let walk_limit = walk::limit_of(limit);
+    let mut place = walk::start_at(address);
+    loop {
+        let next = walk::turn(mem, walk_limit, place);
+        match next {
+            Next::Answer(walked) => return WaitAnswer::Answered(walked),
+            Next::Place(after) => place = after,
+        }
+    }
+}
+
+// The meter for a region: every address from first to last is a start.
+pub fn region(mem: &[u16], first: u16, last: u16, limit: u16) -> RegionAnswer
+    ensures { λ r. ⌜ regionReport r ≡ regionOf (now (mem .entry)) first last limit ⌝ }
+{
+    let long = memory::is_too_long(mem);
+    if long {
+        return RegionAnswer::Refused(Refusal::MemoryTooLong);
+    }
+    if last < first {
+        return RegionAnswer::Refused(Refusal::FirstAboveLast);
+    }
+    if walk::HIGHEST_LIMIT < limit {
+        return RegionAnswer::Refused(Refusal::LimitTooHigh);
+    }
+    let walk_limit = walk::limit_of(limit);
+    let mut longest = LongestWait::NoWait;
+    let mut lowest = LowestOver::NoOver;
+    'scan: for start in first..=last {
+        let mut place = walk::start_at(start);
+        let walked = 'walk: loop {
+            let next = walk::turn(mem, walk_limit, place);
+            match next {
+                Next::Answer(answer) => break 'walk answer,
+                Next::Place(after) => place = after,
+            }
+        };
+        longest = scan::longer(longest, walked, start);
+        lowest = scan::lower(lowest, walked, start);
+    }
+    RegionAnswer::Found(longest, lowest)
+}
