@@ -15,11 +15,11 @@ use Rattle.cpu.specs.declared.State.{State}
 use Rattle.cpu.specs.declared.Lines.{Lines}
 use Rattle.cpu.specs.Answer.{answered}
 use Rattle.cpu.specs.Step.{stepOf}
-use Rattle.cpu.specs.Steps.{Moment, stepsFrom}
+use Rattle.cpu.specs.Steps.{Moment, stepsFrom, cyclesOfAll}
 use Rattle.meter.specs.declared.walk.Place.{Place}
 use Rattle.meter.specs.Answer.{wait, over}
 use Rattle.meter.specs.Walk.{placeAfter, Turn, done, on, turnAt, follow, walkBy}
-use Rattle.meter.specs.Grants.{isGrant, grants, beforeGrant, cyclesOfAll, Unrefused, instrSaves, savedAt, savedLast}
+use Rattle.meter.specs.Grants.{isGrant, grants, beforeGrant, Unrefused, instrSaves, savedAt, savedLast}
 use Rattle.meter.specs.Reads.{wordsRead, readsAfter, readsBy, SameAt, Unstored}
 use Rattle.meter.specs.Demand.{RequestsLow}
 use Rattle.meter.proofs.WalkLaws.{turn-goes, turn-hears, turn-exceeds}

@@ -4,9 +4,9 @@ use mathlib.Core.Path.{_≡_, refl, ap, sym, subst, _∙_}
 use mathlib.Core.Bool.{Bool, true, false, _||_, true≢false}
 use mathlib.Core.List.{List, [], _∷_, _++_}
 use Rattle.word.proofs.Choice.{cond-true, cond-false}
-use Rattle.cpu.specs.Answer.{Reported, answered}
-use Rattle.cpu.specs.Steps.{Moment}
-use Rattle.meter.specs.Grants.{isGrant, isRefusal, cyclesOf, grants, beforeGrant, cyclesOfAll, Unrefused, savedAt, savedLast, Ungranted, Parted, GrantLaws}
+use Rattle.cpu.specs.Answer.{Reported, answered, cyclesOf}
+use Rattle.cpu.specs.Steps.{Moment, cyclesOfAll}
+use Rattle.meter.specs.Grants.{isGrant, isRefusal, grants, beforeGrant, Unrefused, savedAt, savedLast, Ungranted, Parted, GrantLaws}
 
 -- a step that grants
 module _ (x : Moment) (t : List Moment) (g : isGrant (x .left .answer) ≡ true) where

@@ -17,11 +17,11 @@ use Rattle.cpu.specs.Single.{gswdOf, singleResult, singleOf}
 use Rattle.cpu.specs.Branch.{conditionOf, takenOf, targetOf, branchedOf, branchOf}
 use Rattle.cpu.specs.Store.{storeAddress, storeValue, storePointer, storeOf}
 use Rattle.cpu.specs.Step.{granted, executed, effectAt, boundary, actionOf, stepOf}
-use Rattle.cpu.specs.Steps.{Moment, stepsFrom}
+use Rattle.cpu.specs.Steps.{Moment, stepsFrom, cyclesOfAll}
 use Rattle.meter.specs.Walk.{limitOf, startAt, placeAfter, rowTurn, turnAt, walkBy, walkOn, walkFrom}
 use Rattle.meter.specs.Scan.{longerThan, lowerThan, longestBy, lowestBy}
 use Rattle.meter.specs.Meter.{waitOf, namedOf, regionOf}
-use Rattle.meter.specs.Grants.{pcOf, grants, beforeGrant, cyclesOfAll}
+use Rattle.meter.specs.Grants.{pcOf, grants, beforeGrant}
 use Rattle.meter.specs.Reads.{wordsRead, readsBy, readsOn, readsFrom, SameAt, Unstored}
 use Rattle.meter.specs.Demand.{Stands, RequestsLow}
 use Rattle.meter.specs.Instances.{machine, requests, NotEmpty}

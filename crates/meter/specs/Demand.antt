@@ -8,12 +8,12 @@ use lib.ListN.{length}
 use Rattle.memory.specs.Memory.{peekOf}
 use Rattle.cpu.specs.declared.State.{State}
 use Rattle.cpu.specs.declared.Lines.{Lines}
-use Rattle.cpu.specs.Steps.{Moment, stepsFrom}
+use Rattle.cpu.specs.Steps.{Moment, stepsFrom, cyclesOfAll}
 use Rattle.meter.specs.declared.walk.Place.{Place}
 use Rattle.meter.specs.Answer.{Answer, wait, over, Reported, refused, answered, Longest, noWait, longest, Lowest, noOver, overAt, Named}
 use Rattle.meter.specs.Walk.{limitOf, turnAt, follow, walkOn, walkFrom}
 use Rattle.meter.specs.Meter.{answerFrom, waitOf, regionOf}
-use Rattle.meter.specs.Grants.{pcOf, grants, beforeGrant, cyclesOfAll, Unrefused, savedLast}
+use Rattle.meter.specs.Grants.{pcOf, grants, beforeGrant, Unrefused, savedLast}
 use Rattle.meter.specs.Reads.{wordsRead, readsAfter, readsOn, readsFrom, Unstored}
 
 -- "Take any machine that is not halted, has its double-byte mark clear and stands between instructions where a request can't yet be

@@ -1,5 +1,5 @@
 -- A list of steps up to its first grant: the words in which demand 3 speaks of it.
-use Prim.Native.Nat.{ℕ, _+_}
+use Prim.Native.Nat.{ℕ}
 use mathlib.Core.Path.{_≡_}
 use mathlib.Core.Bool.{Bool, true, false, cond, _||_}
 use mathlib.Core.List.{List, [], _∷_, _++_}
@@ -31,11 +31,6 @@ abbrev pub isRefusal : Reported → Bool
 isRefusal (refused n) = true
 isRefusal (answered kind cycles) = false
 
--- "a refused step adds none"
-abbrev pub cyclesOf : Reported → ℕ
-cyclesOf (refused n) = 0
-cyclesOf (answered kind cycles) = cycles
-
 -- whether a grant comes
 unfoldable pub grants : List Moment → Bool
 grants [] = false
@@ -45,11 +40,6 @@ grants (x ∷ t) = isGrant (x .left .answer) || grants t
 unfoldable pub beforeGrant : List Moment → List Moment
 beforeGrant [] = []
 beforeGrant (x ∷ t) = cond (isGrant (x .left .answer)) [] (x ∷ beforeGrant t)
-
--- "the sum answered by the steps"
-unfoldable pub cyclesOfAll : List Moment → ℕ
-cyclesOfAll [] = 0
-cyclesOfAll (x ∷ t) = cyclesOf (x .left .answer) + cyclesOfAll t
 
 -- no step of these is refused
 unfoldable pub Unrefused : List Moment → Type 0

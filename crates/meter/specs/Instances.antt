@@ -7,11 +7,11 @@ use Rattle.memory.specs.Memory.{peekOf}
 use Rattle.cpu.specs.declared.State.{State}
 use Rattle.cpu.specs.declared.Lines.{Lines}
 use Rattle.cpu.specs.Step.{stepOf}
-use Rattle.cpu.specs.Steps.{stepsFrom}
+use Rattle.cpu.specs.Steps.{stepsFrom, cyclesOfAll}
 use Rattle.meter.specs.Answer.{Answer, wait, over, answered, longest, overAt}
 use Rattle.meter.specs.Walk.{limitOf}
 use Rattle.meter.specs.Meter.{waitOf, regionOf}
-use Rattle.meter.specs.Grants.{pcOf, grants, beforeGrant, cyclesOfAll}
+use Rattle.meter.specs.Grants.{pcOf, grants, beforeGrant}
 use Rattle.meter.specs.Reads.{readsFrom, Unstored}
 use Rattle.meter.specs.Demand.{Stands, RequestsLow}
 
