@@ -8,6 +8,9 @@ use Rattle.cpu.specs.declared.Status.{Status}
 use Rattle.cpu.specs.declared.State.{State}
 use Rattle.cpu.specs.declared.Lines.{Lines}
 use Rattle.cpu.specs.Answer.{Reported, refused, answered}
+use Rattle.meter.specs.Answer.{Answer, wait as waitsFor, over, halts, unspecified, Reported as Metered, refused as notMetered, answered as metered}
+use Rattle.meter.specs.Grants.{pcOf}
+use Rattle.meter.specs.Meter.{waitOf}
 use Rattle.cpu.specs.Step.{Outcome, stepOf}
 
 -- the flags S, Z, O and C
@@ -17,17 +20,19 @@ pub record Flags : Type 0 where
   pub o : Bool
   pub c : Bool
 
--- a case: words at an address, R0 to R6 and the flags before (R7 is the address), a number of steps, and what is then expected:
--- R0 to R7, the flags, and the sum of the cycles
+-- what is expected: after the steps R0 to R7, the flags and the sum of the cycles; or that the meter answers a wait
+pub data Expected : Type 0 where
+  leaves : List ℕ → Flags → ℕ → Expected
+  waits : ℕ → Expected
+
+-- a case: words at an address, R0 to R6 and the flags before (R7 is the address), a number of steps, and what is then expected
 pub record Case : Type 0 where
   pub address : ℕ
   pub words : List ℕ
   pub registers : List ℕ
   pub flags : Flags
   pub steps : ℕ
-  pub registers-after : List ℕ
-  pub flags-after : Flags
-  pub cycles : ℕ
+  pub expected : Expected
 
 abbrev pub none : Flags
 none = record { s = false; z = false; o = false; c = false }
@@ -41,9 +46,7 @@ addr =
       registers = 0xFFFF ∷ 1 ∷ 0 ∷ 0 ∷ 0 ∷ 0 ∷ 0 ∷ [];
       flags = none;
       steps = 1;
-      registers-after = 0xFFFF ∷ 0 ∷ 0 ∷ 0 ∷ 0 ∷ 0 ∷ 0 ∷ 1 ∷ [];
-      flags-after = record { s = false; z = true; o = false; c = true };
-      cycles = 6;
+      expected = leaves (0xFFFF ∷ 0 ∷ 0 ∷ 0 ∷ 0 ∷ 0 ∷ 0 ∷ 1 ∷ []) (record { s = false; z = true; o = false; c = true }) 6;
     }
 
 -- "SUBR R0,R1 (1, $8000): $7FFF, C O"
@@ -55,9 +58,7 @@ subr =
       registers = 1 ∷ 0x8000 ∷ 0 ∷ 0 ∷ 0 ∷ 0 ∷ 0 ∷ [];
       flags = none;
       steps = 1;
-      registers-after = 1 ∷ 0x7FFF ∷ 0 ∷ 0 ∷ 0 ∷ 0 ∷ 0 ∷ 1 ∷ [];
-      flags-after = record { s = false; z = false; o = true; c = true };
-      cycles = 6;
+      expected = leaves (1 ∷ 0x7FFF ∷ 0 ∷ 0 ∷ 0 ∷ 0 ∷ 0 ∷ 1 ∷ []) (record { s = false; z = false; o = true; c = true }) 6;
     }
 
 -- "CMPR R1,R2 (2, 1): S only, R2 stays"
@@ -69,9 +70,7 @@ cmpr =
       registers = 0 ∷ 2 ∷ 1 ∷ 0 ∷ 0 ∷ 0 ∷ 0 ∷ [];
       flags = none;
       steps = 1;
-      registers-after = 0 ∷ 2 ∷ 1 ∷ 0 ∷ 0 ∷ 0 ∷ 0 ∷ 1 ∷ [];
-      flags-after = record { s = true; z = false; o = false; c = false };
-      cycles = 6;
+      expected = leaves (0 ∷ 2 ∷ 1 ∷ 0 ∷ 0 ∷ 0 ∷ 0 ∷ 1 ∷ []) (record { s = true; z = false; o = false; c = false }) 6;
     }
 
 -- "NEGR of 0: Z C"
@@ -83,9 +82,7 @@ negr =
       registers = 0 ∷ 0 ∷ 0 ∷ 0 ∷ 0 ∷ 0 ∷ 0 ∷ [];
       flags = none;
       steps = 1;
-      registers-after = 0 ∷ 0 ∷ 0 ∷ 0 ∷ 0 ∷ 0 ∷ 0 ∷ 1 ∷ [];
-      flags-after = record { s = false; z = true; o = false; c = true };
-      cycles = 6;
+      expected = leaves (0 ∷ 0 ∷ 0 ∷ 0 ∷ 0 ∷ 0 ∷ 0 ∷ 1 ∷ []) (record { s = false; z = true; o = false; c = true }) 6;
     }
 
 -- "RLC R0,2 of $8001, C 0, O 1: $0005, C 1, O 0"
@@ -97,9 +94,7 @@ rlcTwice =
       registers = 0x8001 ∷ 0 ∷ 0 ∷ 0 ∷ 0 ∷ 0 ∷ 0 ∷ [];
       flags = record { s = false; z = false; o = true; c = false };
       steps = 1;
-      registers-after = 0x0005 ∷ 0 ∷ 0 ∷ 0 ∷ 0 ∷ 0 ∷ 0 ∷ 1 ∷ [];
-      flags-after = record { s = false; z = false; o = false; c = true };
-      cycles = 8;
+      expected = leaves (0x0005 ∷ 0 ∷ 0 ∷ 0 ∷ 0 ∷ 0 ∷ 0 ∷ 1 ∷ []) (record { s = false; z = false; o = false; c = true }) 8;
     }
 
 -- "SAR of $0101: $0080, S"
@@ -111,9 +106,7 @@ sar =
       registers = 0x0101 ∷ 0 ∷ 0 ∷ 0 ∷ 0 ∷ 0 ∷ 0 ∷ [];
       flags = none;
       steps = 1;
-      registers-after = 0x0080 ∷ 0 ∷ 0 ∷ 0 ∷ 0 ∷ 0 ∷ 0 ∷ 1 ∷ [];
-      flags-after = record { s = true; z = false; o = false; c = false };
-      cycles = 6;
+      expected = leaves (0x0080 ∷ 0 ∷ 0 ∷ 0 ∷ 0 ∷ 0 ∷ 0 ∷ 1 ∷ []) (record { s = true; z = false; o = false; c = false }) 6;
     }
 
 -- "SWAP by two of $1234: $3434"
@@ -125,9 +118,7 @@ swapTwice =
       registers = 0x1234 ∷ 0 ∷ 0 ∷ 0 ∷ 0 ∷ 0 ∷ 0 ∷ [];
       flags = none;
       steps = 1;
-      registers-after = 0x3434 ∷ 0 ∷ 0 ∷ 0 ∷ 0 ∷ 0 ∷ 0 ∷ 1 ∷ [];
-      flags-after = none;
-      cycles = 8;
+      expected = leaves (0x3434 ∷ 0 ∷ 0 ∷ 0 ∷ 0 ∷ 0 ∷ 0 ∷ 1 ∷ []) none 8;
     }
 
 -- "001 2B8 0034 0012: R0 = $1234, 14 cycles"
@@ -139,9 +130,7 @@ doubleImmediate =
       registers = 0 ∷ 0 ∷ 0 ∷ 0 ∷ 0 ∷ 0 ∷ 0 ∷ [];
       flags = none;
       steps = 2;
-      registers-after = 0x1234 ∷ 0 ∷ 0 ∷ 0 ∷ 0 ∷ 0 ∷ 0 ∷ 4 ∷ [];
-      flags-after = none;
-      cycles = 14;
+      expected = leaves (0x1234 ∷ 0 ∷ 0 ∷ 0 ∷ 0 ∷ 0 ∷ 0 ∷ 4 ∷ []) none 14;
     }
 
 -- "at $100, 220 0001: stays at $100, 9"
@@ -153,9 +142,7 @@ branchBack =
       registers = 0 ∷ 0 ∷ 0 ∷ 0 ∷ 0 ∷ 0 ∷ 0 ∷ [];
       flags = none;
       steps = 1;
-      registers-after = 0 ∷ 0 ∷ 0 ∷ 0 ∷ 0 ∷ 0 ∷ 0 ∷ 0x100 ∷ [];
-      flags-after = none;
-      cycles = 9;
+      expected = leaves (0 ∷ 0 ∷ 0 ∷ 0 ∷ 0 ∷ 0 ∷ 0 ∷ 0x100 ∷ []) none 9;
     }
 
 -- "at $100, 004 110 234: R5 = $103, R7 = $1234"
@@ -167,9 +154,7 @@ jsr =
       registers = 0 ∷ 0 ∷ 0 ∷ 0 ∷ 0 ∷ 0 ∷ 0 ∷ [];
       flags = none;
       steps = 1;
-      registers-after = 0 ∷ 0 ∷ 0 ∷ 0 ∷ 0 ∷ 0x103 ∷ 0 ∷ 0x1234 ∷ [];
-      flags-after = none;
-      cycles = 12;
+      expected = leaves (0 ∷ 0 ∷ 0 ∷ 0 ∷ 0 ∷ 0x103 ∷ 0 ∷ 0x1234 ∷ []) none 12;
     }
 
 -- "GSWD with S C: $9090"
@@ -181,14 +166,24 @@ gswd =
       registers = 0 ∷ 0 ∷ 0 ∷ 0 ∷ 0 ∷ 0 ∷ 0 ∷ [];
       flags = record { s = true; z = false; o = false; c = true };
       steps = 1;
-      registers-after = 0x9090 ∷ 0 ∷ 0 ∷ 0 ∷ 0 ∷ 0 ∷ 0 ∷ 1 ∷ [];
-      flags-after = record { s = true; z = false; o = false; c = true };
-      cycles = 6;
+      expected = leaves (0x9090 ∷ 0 ∷ 0 ∷ 0 ∷ 0 ∷ 0 ∷ 0 ∷ 1 ∷ []) (record { s = true; z = false; o = false; c = true }) 6;
+    }
+
+-- "048 04C 007 034: wait 24"
+abbrev pub wait : Case
+wait =
+    record {
+      address = 0;
+      words = 0x048 ∷ 0x04C ∷ 0x007 ∷ 0x034 ∷ [];
+      registers = 0 ∷ 0 ∷ 0 ∷ 0 ∷ 0 ∷ 0 ∷ 0 ∷ [];
+      flags = none;
+      steps = 0;
+      expected = waits 24;
     }
 
 -- the table
 abbrev pub table : List Case
-table = addr ∷ subr ∷ cmpr ∷ negr ∷ rlcTwice ∷ sar ∷ swapTwice ∷ doubleImmediate ∷ branchBack ∷ jsr ∷ gswd ∷ []
+table = addr ∷ subr ∷ cmpr ∷ negr ∷ rlcTwice ∷ sar ∷ swapTwice ∷ doubleImmediate ∷ branchBack ∷ jsr ∷ gswd ∷ wait ∷ []
 
 -- nothing is requested, and the external inputs are 0
 abbrev pub quiet : Lines
@@ -229,24 +224,32 @@ same [] (y ∷ ys) = false
 same (x ∷ xs) [] = false
 same (x ∷ xs) (y ∷ ys) = eqb x y && same xs ys
 
--- a state and a sum of cycles are those expected
-unfoldable pub meets : Case → State → ℕ → Bool
-meets c st sum =
-    same (st .registers) (c .registers-after)
-    && (Bool·beq (st .status .s) (c .flags-after .s)
-    && (Bool·beq (st .status .z) (c .flags-after .z)
-    && (Bool·beq (st .status .o) (c .flags-after .o)
-    && (Bool·beq (st .status .c) (c .flags-after .c) && eqb sum (c .cycles)))))
+-- what the meter answers is a wait of so many cycles
+unfoldable pub isWait : ℕ → Metered Answer → Bool
+isWait w (notMetered n) = false
+isWait w (metered (waitsFor v)) = eqb v w
+isWait w (metered over) = false
+isWait w (metered halts) = false
+isWait w (metered (unspecified a)) = false
+
+-- a state, a memory and a sum of cycles are those expected; the meter is asked at R7, with limit 0
+unfoldable pub meets : Expected → State → List ℕ → ℕ → Bool
+meets (leaves registers flags cycles) st m sum =
+    same (st .registers) registers
+    && (Bool·beq (st .status .s) (flags .s)
+    && (Bool·beq (st .status .z) (flags .z)
+    && (Bool·beq (st .status .o) (flags .o) && (Bool·beq (st .status .c) (flags .c) && eqb sum cycles))))
+meets (waits w) st m sum = isWait w (waitOf m (pcOf st) 0)
 
 -- after n more steps the case is met
-unfoldable pub meets-after : ℕ → Case → State → List ℕ → ℕ → Bool
-meets-after zero c st m sum = meets c st sum
-meets-after (suc n) c st m sum =
-    meets-after n c (stepOf st m quiet .state) (stepOf st m quiet .memory) (charged sum (stepOf st m quiet .answer))
+unfoldable pub meets-after : ℕ → Expected → State → List ℕ → ℕ → Bool
+meets-after zero e st m sum = meets e st m sum
+meets-after (suc n) e st m sum =
+    meets-after n e (stepOf st m quiet .state) (stepOf st m quiet .memory) (charged sum (stepOf st m quiet .answer))
 
 -- the test of a case
 unfoldable pub holds : Case → Bool
-holds c = meets-after (c .steps) c (before c) (zeros (c .address) ++ c .words) 0
+holds c = meets-after (c .steps) (c .expected) (before c) (zeros (c .address) ++ c .words) 0
 
 unfoldable pub all : List Case → Bool
 all [] = true
