@@ -6,7 +6,7 @@ use mathlib.Core.List.{List}
 use native.Mathlib.Omega.{arith}
 use lib.Dec.{eqb, ltb, lit≤}
 use lib.ListN.{getD}
-use borrow.Author.Tests.{ne-eqb}
+use borrow.Author.Tests.{eqb-true, ne-eqb}
 use Rattle.word.specs.declared.Flagged.{Flagged}
 use Rattle.word.proofs.Choice.{cond-false, cond-both}
 use Rattle.decode.specs.declared.Instr.{Instr}
@@ -48,7 +48,7 @@ cond-either P false p q = q refl
 
 jump-heard : (d : ℕ) → eqb d 4 ≡ true → controlRow d .heard ≡ true
 unfolding controlRow heardRow
-jump-heard d e = rw e
+jump-heard d e = let z : d ≡ 4 = eqb-true d 4 e in rw z
 
 branch-heard : (b : ℕ) → branchRow b .heard ≡ true
 unfolding branchRow heardRow
