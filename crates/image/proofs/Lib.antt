@@ -1,0 +1,5 @@
+-- Laws of bytes and words, of reading, and of the loops.
+pub mod ByteLaws
+pub mod ReadLaws
+pub mod PassLaws
+pub mod LoadLaws
