@@ -39,6 +39,10 @@ pub bytes-length : (ws : List ℕ) → length (bytesOf ws) ≡ length ws * 2
 bytes-length [] = refl
 bytes-length (w ∷ ws) = omega (arith, bytes-length ws)
 
+pub bytes-append : (xs ys : List ℕ) → bytesOf (xs ++ ys) ≡ bytesOf xs ++ bytesOf ys
+bytes-append [] ys = refl
+bytes-append (x ∷ xs) ys = ap (λ (l : List ℕ). x / 256 ∷ x % 256 ∷ l) (bytes-append xs ys)
+
 total-append : (l m : List ℕ) → total (l ++ m) ≡ total l + total m
 total-append [] m = omega arith
 total-append (x ∷ l) m = omega (arith, total-append l m)

@@ -3,3 +3,4 @@ pub mod ByteLaws
 pub mod ReadLaws
 pub mod PassLaws
 pub mod LoadLaws
+pub mod EmitLaws

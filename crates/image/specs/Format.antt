@@ -23,9 +23,12 @@ pub record Record : Type 0 where
   pub address : ℕ
   pub words : List ℕ
 
+abbrev pub recordOver : ℕ → List ℕ → Record
+recordOver address words = record { address = address; words = words }
+
 -- the record of so many words whose bytes begin with its mark: the words stand behind mark, address and count
 abbrev pub recordAt : ℕ → ℕ → List ℕ → Record
-recordAt address count bytes = record { address = address; words = wordsOf count (drop 6 bytes) }
+recordAt address count bytes = recordOver address (wordsOf count (drop 6 bytes))
 
 abbrev pub total : List ℕ → ℕ
 total [] = 0

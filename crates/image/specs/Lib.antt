@@ -5,3 +5,4 @@ pub mod Read
 pub mod Pass
 pub mod Answer
 pub mod Load
+pub mod Write

@@ -6,9 +6,11 @@ ghost use lib.ListN.{length};
 ghost use Rattle.word.specs.Word.{wrapAdd};
 ghost use Rattle.image.specs.Read.{bodyOf};
 ghost use Rattle.image.specs.Load.{isFor, loaded, sumTested, loadOf};
+ghost use Rattle.image.specs.Write.{written, writeOf};
 use refusal::Refusal;
 
 mod check;
+mod emit;
 mod format;
 mod parse;
 mod store;
@@ -20,6 +22,12 @@ use crate::parse::Head;
 pub enum LoadAnswer {
     Refused(Refusal),
     Loaded(usize),
+}
+
+// The length of the file, or why it was not written.
+pub enum WriteAnswer {
+    Refused(Refusal),
+    Written(usize),
 }
 
 // The board test: whether the file belongs on this board.
@@ -77,4 +85,23 @@ pub fn load(board: u16, mem: &mut [u16], file: &[u8]) -> LoadAnswer
     } else {
         LoadAnswer::Refused(Refusal::WrongBoard)
     }
+}
+
+// Writes the words from `first` to `last` as a file for a board. The room past the file stays.
+pub fn write(board: u16, mem: &[u16], first: u16, last: u16, room: &mut [u8]) -> WriteAnswer
+    ensures { λ r. ⌜ written r (now (room .exit)) ≡ writeOf board (now (mem .entry)) first last (now (room .entry)) ⌝ }
+{
+    let long = memory::is_too_long(mem);
+    if long {
+        return WriteAnswer::Refused(Refusal::MemoryTooLong);
+    }
+    if last < first {
+        return WriteAnswer::Refused(Refusal::FirstAboveLast);
+    }
+    let start = first as usize;
+    let end = last as usize + 1;
+    if mem.len() < end {
+        return WriteAnswer::Refused(Refusal::PastMemory);
+    }
+    emit::put_image(room, board, first, &mem[start..end])
 }
