@@ -4,3 +4,4 @@ pub mod ReadLaws
 pub mod PassLaws
 pub mod LoadLaws
 pub mod EmitLaws
+pub mod TripLaws

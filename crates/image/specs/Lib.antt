@@ -6,3 +6,4 @@ pub mod Pass
 pub mod Answer
 pub mod Load
 pub mod Write
+pub mod Trip
