@@ -5,3 +5,4 @@ pub mod PassLaws
 pub mod LoadLaws
 pub mod EmitLaws
 pub mod TripLaws
+pub mod DamageLaws

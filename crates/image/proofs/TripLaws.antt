@@ -227,7 +227,7 @@ record Wrote (board : ℕ) (m : List ℕ) (first last : ℕ) (file : List ℕ) :
   within : last < length m
   is : file ≡ regionImage board m first last
 
-no-refusal : {A : Type 0} {r b : ℕ} → refused r ≡ answered b → A
+pub no-refusal : {A : Type 0} {r b : ℕ} → refused r ≡ answered b → A
 no-refusal e = let z : _≡_ {A = ℕ} 0 1 = cc in absurd (omega arith)
 
 module _ (board : ℕ) (m : List ℕ) (first last : ℕ) (file room : List ℕ) where
