@@ -5,16 +5,20 @@ use Rattle.image.proofs.write.Statement.{statement}
 use Rattle.image.proofs.write.Tie as tie
 
 returns : tie.Need-returns
-returns c = write-long _ _ _ _ _ (sym (c .before .is-too-long .ensures) ∙ c .if1 .taken)
+returns c = let a = c .before .before .before .before .args in
+    write-long (a .board) (a .mem .now) (a .first) (a .last) (a .room .now) (sym (c .before .is-too-long .ensures) ∙ c .if1 .taken)
 
 returns-2 : tie.Need-returns-2
-returns-2 c = write-above _ _ _ _ _ (sym (c .before .before .is-too-long .ensures) ∙ c .before .if1 .left) (c .if2 .taken)
+returns-2 c = let a = c .before .before .before .before .before .args in
+    write-above (a .board) (a .mem .now) (a .first) (a .last) (a .room .now) (sym (c .before .before .is-too-long .ensures) ∙ c .before .if1 .left) (c .if2 .taken)
 
 returns-3 : tie.Need-returns-3
-returns-3 c = write-past _ _ _ _ _ (sym (c .before .before .before .is-too-long .ensures) ∙ c .before .before .if1 .left) (c .before .if2 .left) (c .if3 .taken)
+returns-3 c = let a = c .before .before .before .before .before .before .args in
+    write-past (a .board) (a .mem .now) (a .first) (a .last) (a .room .now) (sym (c .before .before .before .is-too-long .ensures) ∙ c .before .before .if1 .left) (c .before .if2 .left) (c .if3 .taken)
 
 returns-4 : tie.Need-returns-4
-returns-4 c = c .before .before .put-image .ensures ∙ write-here _ _ _ _ _ (sym (c .before .before .before .before .before .before .before .before .is-too-long .ensures) ∙ c .before .before .before .before .before .before .before .if1 .left) (c .before .before .before .before .before .before .if2 .left) (c .before .before .before .before .before .if3 .left)
+returns-4 c = let a = c .before .before .before .before .before .before .before .before .before .before .before .args in
+    c .before .before .put-image .ensures ∙ write-here (a .board) (a .mem .now) (a .first) (a .last) (a .room .now) (sym (c .before .before .before .before .before .before .before .before .is-too-long .ensures) ∙ c .before .before .before .before .before .before .before .if1 .left) (c .before .before .before .before .before .before .if2 .left) (c .before .before .before .before .before .if3 .left)
 
 pub write-spec : {M : Type 1} → statement M
 write-spec =
