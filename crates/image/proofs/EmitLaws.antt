@@ -1,0 +1,323 @@
+-- Laws of cutting a region into records, and of the writer's loops.
+use Prim.Native.Nat.{ℕ, zero, suc, pred, min, _+_, _-_, _*_, _/_, _%_, _<_, _≤_}
+use mathlib.Core.Path.{_≡_, refl, sym, ap, _∙_}
+use mathlib.Core.Bool.{Bool, true, false, cond}
+use mathlib.Core.List.{List, [], _∷_, _++_, append-assoc, append-nil}
+use native.Mathlib.Omega.{arith}
+use native.Mathlib.Numerals.{add-one}
+use lib.Dec.{eqb, ltb}
+use lib.ListN.{length, getD, take, drop, set, length-append, length-take, length-drop, drop-of-length-le}
+use lib.Seq.{take-suc, take-length, drop-drop, sets, length-sets}
+use borrow.Author.Tests.{eq-eqb, ne-eqb, eqb-true, eqb-false, lt-ltb, le-ltb}
+use Rattle.refusal.specs.declared.Refusal.{Refusal}
+use Rattle.refusal.specs.declared.Refusal.the-variants.{MemoryTooLong, FirstAboveLast, PastMemory, ImageRoomTooSmall}
+use Rattle.refusal.specs.Refusals.{refusalNumber}
+use Rattle.refusal.proofs.Laws.{numbers-apart}
+use Rattle.memory.specs.Memory.{tooLong}
+use Rattle.word.specs.Word.{wrapAdd}
+use Rattle.word.proofs.Choice.{cond-true, cond-false}
+use Rattle.image.specs.declared.WriteAnswer.{WriteAnswer}
+use Rattle.image.specs.declared.WriteAnswer.the-variants.{Refused, Written}
+use Rattle.image.specs.Bytes.{bytesOf, overwrite}
+use Rattle.image.specs.Format.{recordLimit, idMark, atMark, okMark, total, Record, recordOver, recordSum, recordsSum, checksum, recordWords, recordsWords, headWords, tailWords, imageOf}
+use Rattle.image.specs.Answer.{WriteAnswersApart}
+use Rattle.image.specs.Write.{cutFrom, cutOf, recordCount, imageLength, Writing, refuseRoom, writing, regionImage, written, writeOf}
+use Rattle.image.proofs.ByteLaws.{bytes-length, bytes-append, sets-split, overwrite-sets}
+use Rattle.image.proofs.PassLaws.{mod-left, mod-right}
+
+pub write-answers-apart : WriteAnswersApart
+write-answers-apart (Refused a) (Refused b) e =
+    let n : refusalNumber a ≡ refusalNumber b = cc in ap Refused (numbers-apart a b n)
+write-answers-apart (Refused a) (Written b) e = let z : _≡_ {A = ℕ} 0 1 = cc in absurd (omega arith)
+write-answers-apart (Written a) (Refused b) e = let z : _≡_ {A = ℕ} 0 1 = cc in absurd (omega arith)
+write-answers-apart (Written a) (Written b) e = cc
+
+-- a first word, and then the others
+put-on : (d : List ℕ) (at w : ℕ) (ws : List ℕ) → sets d at (bytesOf (w ∷ ws)) ≡ sets (sets d at (bytesOf (w ∷ []))) (at + 2) (bytesOf ws)
+put-on d at w ws = sets-split d at (bytesOf (w ∷ [])) (bytesOf ws)
+
+-- words, and then others behind their bytes
+put-more : (d : List ℕ) (at : ℕ) (xs ys : List ℕ)
+    → sets d at (bytesOf (xs ++ ys)) ≡ sets (sets d at (bytesOf xs)) (at + length xs * 2) (bytesOf ys)
+put-more d at xs ys = rw (bytes-append xs ys, ← bytes-length xs) (sets-split d at (bytesOf xs) (bytesOf ys))
+
+-- The first i words of a list, as bytes from an index on.
+pub record Putting (d₀ : List ℕ) (at : ℕ) (ws d : List ℕ) (i : ℕ) : Type 0 where
+  pub within : i ≤ length ws
+  pub laid : d ≡ sets d₀ at (bytesOf (take i ws))
+
+pub putting : (d : List ℕ) (at : ℕ) (ws : List ℕ) → Putting d at ws d 0
+putting d at ws = record { within = omega arith; laid = refl }
+
+pub putting-length : {d₀ : List ℕ} {at : ℕ} {ws d : List ℕ} {i : ℕ} → Putting d₀ at ws d i → length d ≡ length d₀
+putting-length {d₀} {at} {ws} {d} {i} k = ap length (k .laid) ∙ length-sets d₀ at (bytesOf (take i ws))
+
+pub putting-on : {d₀ : List ℕ} {at : ℕ} {ws d d′ : List ℕ} {i : ℕ} → Putting d₀ at ws d i → i < length ws
+    → d′ ≡ sets d (at + i * 2) (bytesOf (getD ws i 0 ∷ [])) → Putting d₀ at ws d′ (i + 1)
+putting-on {d₀} {at} {ws} {d} {d′} {i} k h e =
+    let n : length (take i ws) ≡ i = omega (arith, length-take i ws) in
+    record {
+      within = omega arith;
+      laid = e ∙ rw (add-one, take-suc ws i 0, put-more d₀ at (take i ws) (getD ws i 0 ∷ []), n, k .laid);
+    }
+
+pub putting-end : {d₀ : List ℕ} {at : ℕ} {ws d : List ℕ} {i : ℕ} → Putting d₀ at ws d i → length ws ≤ i → d ≡ sets d₀ at (bytesOf ws)
+putting-end {d₀} {at} {ws} {d} {i} k h =
+    let w = k .within in
+    let e : i ≡ length ws = omega arith in
+    k .laid ∙ rw (e, take-length)
+
+-- a record's mark, address and count, and then its words
+pub record-put : (d : List ℕ) (at x y z : ℕ) (ws : List ℕ) {d1 d2 d3 d4 : List ℕ} → d1 ≡ sets d at (bytesOf (x ∷ [])) → d2 ≡ sets d1 (at + 2) (bytesOf (y ∷ []))
+    → d3 ≡ sets d2 (at + 4) (bytesOf (z ∷ [])) → d4 ≡ sets d3 (at + 6) (bytesOf ws) → d4 ≡ sets d at (bytesOf (x ∷ y ∷ z ∷ ws))
+record-put d at x y z ws {d1} {d2} {d3} e1 e2 e3 e4 =
+    let f : at + 2 + 2 ≡ at + 4 = omega arith in
+    let g : at + 4 + 2 ≡ at + 6 = omega arith in
+    sym (put-on d at x (y ∷ z ∷ ws)
+    ∙ rw (← e1) (put-on d1 (at + 2) y (z ∷ ws)
+    ∙ rw (← e2, f) (put-on d2 (at + 4) z ws
+    ∙ rw (← e3, g) (sym e4))))
+
+take-of-take : (n : ℕ) (l : List ℕ) → take (length (take n l)) l ≡ take n l
+take-of-take zero l = refl
+take-of-take (suc n) [] = refl
+take-of-take (suc n) (x ∷ l) = ap (λ (r : List ℕ). x ∷ r) (take-of-take n l)
+
+drop-of-take : (n : ℕ) (l : List ℕ) → drop (length (take n l)) l ≡ drop n l
+drop-of-take zero l = refl
+drop-of-take (suc n) [] = refl
+drop-of-take (suc n) (x ∷ l) = drop-of-take n l
+
+records-append : (rs qs : List Record) → recordsWords (rs ++ qs) ≡ recordsWords rs ++ recordsWords qs
+records-append [] qs = refl
+records-append (r ∷ rs) qs = ap (λ (l : List ℕ). recordWords r ++ l) (records-append rs qs) ∙ sym (append-assoc (recordWords r) (recordsWords rs) (recordsWords qs))
+
+sums-append : (rs qs : List Record) → recordsSum (rs ++ qs) ≡ recordsSum rs + recordsSum qs
+sums-append [] qs = omega arith
+sums-append (r ∷ rs) qs = omega (arith, sums-append rs qs)
+
+-- Cutting: nothing is left, or a record and then the rest.
+cut-none : (n limit a : ℕ) (ws : List ℕ) → length ws ≡ 0 → cutFrom n limit a ws ≡ []
+cut-none zero limit a ws h = refl
+cut-none (suc n) limit a ws h = cond-true _ _ (eq-eqb _ _ h)
+
+cut-some : (n limit a : ℕ) (ws : List ℕ) → 0 < n → 0 < length ws
+    → cutFrom n limit a ws ≡ recordOver a (take limit ws) ∷ cutFrom (pred n) limit (a + length (take limit ws)) (drop limit ws)
+cut-some zero limit a ws l h = absurd (omega arith)
+cut-some (suc n) limit a ws l h = cond-false _ _ (ne-eqb (length ws) 0 (λ e. omega arith))
+
+-- each record has three words before its own
+pub cut-length : (n a : ℕ) (ws : List ℕ) → length ws ≤ n → length (recordsWords (cutFrom n recordLimit a ws)) ≡ recordCount (length ws) * 3 + length ws
+cut-length zero a ws h = omega arith
+cut-length (suc n) a ws h = go (eqb (length ws) 0) refl (cut-length n (a + length (take recordLimit ws)) (drop recordLimit ws))
+  where
+    cs : List ℕ
+    cs = take recordLimit ws
+
+    rs : List Record
+    rs = cutFrom n recordLimit (a + length cs) (drop recordLimit ws)
+
+    go : (t : Bool) → eqb (length ws) 0 ≡ t
+        → (length (drop recordLimit ws) ≤ n → length (recordsWords rs) ≡ recordCount (length (drop recordLimit ws)) * 3 + length (drop recordLimit ws))
+        → length (recordsWords (cond t [] (recordOver a cs ∷ rs))) ≡ recordCount (length ws) * 3 + length ws
+    go true e ih = omega (arith, eqb-true (length ws) 0 e)
+    go false e ih =
+        let ne = eqb-false (length ws) 0 e in
+        let lc = length-take recordLimit ws in
+        let ld = length-drop recordLimit ws in
+        let la = length-append cs (recordsWords rs) in
+        let li = ih (omega arith) in
+        omega arith
+
+-- words put behind those that stand from byte 4 on
+laid-more : (d₀ n w : List ℕ) {d d′ : List ℕ} {at : ℕ} → d ≡ sets d₀ 4 (bytesOf n) → at ≡ 4 + length n * 2 → d′ ≡ sets d at (bytesOf w)
+    → d′ ≡ sets d₀ 4 (bytesOf (n ++ w))
+laid-more d₀ n w e f g = rw (g, e, f) (sym (put-more d₀ 4 n w))
+
+sums-more : (x y : ℕ) {s t r : ℕ} → s ≡ x % 65536 → t ≡ y % 65536 → r ≡ wrapAdd s t → r ≡ (x + y) % 65536
+unfolding wrapAdd
+sums-more x y e f g = rw (g, e, f) (mod-left x (y % 65536) ∙ mod-right x y)
+
+-- The writer's loop: the records of the region's words before start stand in the room.
+pub record Emitting (room₀ : List ℕ) (first : ℕ) (region room : List ℕ) (at start sum : ℕ) : Type 0 where
+  pub done : List Record
+  pub fuel : ℕ
+  pub within : start ≤ length region
+  pub enough : length region - start ≤ fuel
+  pub all : done ++ cutFrom fuel recordLimit (first + start) (drop start region) ≡ cutOf recordLimit first region
+  pub fits : 8 + length (recordsWords (cutOf recordLimit first region)) * 2 ≤ length room₀
+  pub place : at ≡ 4 + length (recordsWords done) * 2
+  pub laid : room ≡ sets room₀ 4 (bytesOf (recordsWords done))
+  pub sums : sum ≡ recordsSum done % 65536
+
+pub emitting : (room : List ℕ) (first : ℕ) (region : List ℕ) → imageLength (length region) ≤ length room → Emitting room first region room 4 0 0
+unfolding cutOf
+emitting room first region h =
+    let z : first + 0 ≡ first = omega arith in
+    let l = cut-length (length region) first region (omega arith) in
+    record {
+      done = [];
+      fuel = length region;
+      within = omega arith;
+      enough = omega arith;
+      all = rw z;
+      fits = omega arith;
+      place = refl;
+      laid = refl;
+      sums = refl;
+    }
+
+pub emitting-length : {room₀ : List ℕ} {first : ℕ} {region room : List ℕ} {at start sum : ℕ} → Emitting room₀ first region room at start sum → length room ≡ length room₀
+emitting-length {room₀} k = ap length (k .laid) ∙ length-sets room₀ 4 (bytesOf (recordsWords (k .done)))
+
+module _ {room₀ : List ℕ} {first : ℕ} {region room : List ℕ} {at start sum : ℕ} (k : Emitting room₀ first region room at start sum) where
+  left : List ℕ
+  left = drop start region
+
+  next : Record
+  next = recordOver (first + start) (take recordLimit left)
+
+  later : List Record
+  later = cutFrom (pred (k .fuel)) recordLimit (first + start + length (take recordLimit left)) (drop recordLimit left)
+
+  module _ (h : start < length region) where
+    cut-next : cutOf recordLimit first region ≡ k .done ++ (next ∷ later)
+    unfolding left next later
+    cut-next =
+        let ld = length-drop start region in
+        let e = k .enough in
+        sym (k .all) ∙ ap (λ (l : List Record). k .done ++ l) (cut-some (k .fuel) recordLimit (first + start) (drop start region) (omega arith) (omega arith))
+
+    next-length : length (next .words) ≡ min recordLimit (length region - start)
+    unfolding next left
+    next-length = length-take recordLimit (drop start region) ∙ ap (min recordLimit) (length-drop start region)
+
+    -- one record more; the code reads its words off a slice up to `end`
+    module _ {end : ℕ} (e : end ≡ start + min recordLimit (length region - start)) where
+      next-end : end ≡ start + length (next .words)
+      next-end = e ∙ ap (λ (n : ℕ). start + n) (sym next-length)
+
+      next-words : take (end - start) (drop start region) ≡ next .words
+      unfolding next left
+      next-words =
+          let f : end - start ≡ length (next .words) = omega (arith, next-end) in
+          rw f (take-of-take recordLimit (drop start region))
+
+      -- the code's slice has as many words, and the record its place in the room
+      pub emitting-words : length (take (end - start) (drop start region)) ≡ min recordLimit (length region - start)
+      emitting-words = ap length next-words ∙ next-length
+
+      pub emitting-fits : {n : ℕ} → n ≡ min recordLimit (length region - start) → at + (6 + n * 2) ≤ length room
+      emitting-fits {n} f =
+          let p = k .place in
+          let g = rw (cut-next, records-append (k .done) (next ∷ later)) at (k .fits) in
+          let la = length-append (recordsWords (k .done)) (recordsWords (next ∷ later)) in
+          let lb = length-append (next .words) (recordsWords later) in
+          omega (arith, emitting-length k, next-length)
+
+      next-left : drop end region ≡ drop recordLimit left
+      unfolding next left
+      next-left = rw (next-end, ← drop-drop (length (next .words)) start region) (drop-of-take recordLimit (drop start region))
+
+      pub emitting-on : {room′ : List ℕ} {t sum′ : ℕ}
+          → room′ ≡ sets room at (bytesOf (recordWords (recordOver (first + start) (take (end - start) (drop start region)))))
+          → t ≡ recordSum (recordOver (first + start) (take (end - start) (drop start region))) % 65536 → sum′ ≡ wrapAdd sum t
+          → Emitting room₀ first region room′ (at + (6 + (end - start) * 2)) end sum′
+      unfolding next later
+      emitting-on {room′} {t} {sum′} p q s =
+          let n = recordsWords (k .done) in
+          let w = recordWords next in
+          let a : recordsWords (k .done ++ (next ∷ [])) ≡ n ++ w = records-append (k .done) (next ∷ []) ∙ ap (λ (l : List ℕ). n ++ l) (append-nil w) in
+          let la = length-append n w in
+          let pl = k .place in
+          let ne = next-end in
+          let f : first + end ≡ first + start + length (next .words) = omega arith in
+          let v : t ≡ recordSum next % 65536 = rw next-words at q in
+          record {
+            done = k .done ++ (next ∷ []);
+            fuel = pred (k .fuel);
+            within = omega arith;
+            enough = omega (arith, k .enough, next-length);
+            all = rw (append-assoc (k .done) (next ∷ []), f, next-left) (sym cut-next);
+            fits = k .fits;
+            place = rw a (omega arith);
+            laid = laid-more room₀ n w (k .laid) (k .place) (rw next-words at p) ∙ ap (λ (l : List ℕ). sets room₀ 4 (bytesOf l)) (sym a);
+            sums =
+                sums-more (recordsSum (k .done)) (recordSum next) (k .sums) v s
+                ∙ ap (λ (x : ℕ). x % 65536) (omega (arith, sums-append (k .done) (next ∷ [])));
+          }
+
+  -- nothing is left
+  pub emitting-end : length region ≤ start
+      → (sum ≡ recordsSum (cutOf recordLimit first region) % 65536) × (room ≡ sets room₀ 4 (bytesOf (recordsWords (cutOf recordLimit first region))))
+  emitting-end h =
+      let n = cut-none (k .fuel) recordLimit (first + start) (drop start region) (omega (arith, length-drop start region)) in
+      let e : cutOf recordLimit first region ≡ k .done = sym (k .all) ∙ ap (λ (l : List Record). k .done ++ l) n ∙ append-nil (k .done) in
+      rw e (k .sums, k .laid)
+
+pub words-of-cut : (first : ℕ) (region : List ℕ) → length (recordsWords (cutOf recordLimit first region)) ≡ recordCount (length region) * 3 + length region
+unfolding cutOf
+words-of-cut first region = cut-length (length region) first region (omega arith)
+
+-- The whole file.
+module _ (board first : ℕ) (region : List ℕ) where
+  pub image-length : length (imageOf board (cutOf recordLimit first region)) ≡ imageLength (length region)
+  unfolding imageOf
+  image-length =
+      let ws = recordsWords (cutOf recordLimit first region) in
+      let s = checksum board (cutOf recordLimit first region) in
+      let lb = bytes-length (headWords board ++ (ws ++ tailWords s)) in
+      let la = length-append ws (tailWords s) in
+      omega (arith, words-of-cut first region)
+
+  module _ (d : List ℕ) {b : ℕ} (e : b ≡ imageLength (length region)) where
+    pub room-short : length d < b → refuseRoom d ImageRoomTooSmall ≡ writing d (imageOf board (cutOf recordLimit first region))
+    unfolding writing
+    room-short h = sym (cond-true _ _ (lt-ltb (length d) (length (imageOf board (cutOf recordLimit first region))) (omega (arith, image-length))))
+
+    -- the head, the records and the tail, put one after the other
+    module _ {d1 d2 d3 d4 d5 : List ℕ} {sum s : ℕ} (e1 : d1 ≡ sets d 0 (bytesOf (idMark ∷ []))) (e2 : d2 ≡ sets d1 2 (bytesOf (board ∷ [])))
+        (e3 : (sum ≡ recordsSum (cutOf recordLimit first region) % 65536) × (d3 ≡ sets d2 4 (bytesOf (recordsWords (cutOf recordLimit first region)))))
+        (e4 : d4 ≡ sets d3 (b - 4) (bytesOf (okMark ∷ []))) (es : s ≡ wrapAdd board sum) (e5 : d5 ≡ sets d4 (b - 2) (bytesOf (s ∷ []))) where
+      sum-is : s ≡ checksum board (cutOf recordLimit first region)
+      unfolding wrapAdd checksum
+      sum-is = rw (es, e3 .0) (mod-right board (recordsSum (cutOf recordLimit first region)))
+
+      image-put : d5 ≡ sets d 0 (imageOf board (cutOf recordLimit first region))
+      unfolding imageOf
+      image-put =
+          let ws = recordsWords (cutOf recordLimit first region) in
+          let f : 4 + length ws * 2 ≡ b - 4 = omega (arith, words-of-cut first region) in
+          let g : b - 4 + 2 ≡ b - 2 = omega arith in
+          sym (put-on d 0 idMark (board ∷ (ws ++ tailWords (checksum board (cutOf recordLimit first region))))
+          ∙ rw (← e1) (put-on d1 2 board (ws ++ tailWords (checksum board (cutOf recordLimit first region)))
+          ∙ rw (← e2, ← sum-is) (put-more d2 4 ws (okMark ∷ s ∷ [])
+          ∙ rw (← e3 .1, f) (put-on d3 (b - 4) okMark (s ∷ [])
+          ∙ rw (← e4, g) (sym e5)))))
+
+      pub room-written : b ≤ length d → written (Written b) d5 ≡ writing d (imageOf board (cutOf recordLimit first region))
+      unfolding writing
+      room-written h =
+          let file = imageOf board (cutOf recordLimit first region) in
+          let l : length file ≡ b = image-length ∙ sym e in
+          let o : d5 ≡ overwrite d 0 file = image-put ∙ sym (overwrite-sets d 0 file (omega arith)) in
+          sym (cond-false _ _ (le-ltb (length d) (length file) (omega arith)) ∙ rw (l, o))
+
+-- The writer's ways, in the order of their numbers.
+module _ (board : ℕ) (m : List ℕ) (first last : ℕ) (room : List ℕ) where
+  pub write-long : tooLong m ≡ true → refuseRoom room MemoryTooLong ≡ writeOf board m first last room
+  unfolding writeOf
+  write-long h = sym (cond-true _ _ h)
+
+  module _ (t : tooLong m ≡ false) where
+    pub write-above : last < first → refuseRoom room FirstAboveLast ≡ writeOf board m first last room
+    unfolding writeOf
+    write-above h = sym (cond-false _ _ t ∙ cond-true _ _ (lt-ltb last first h))
+
+    pub write-past : first ≤ last → length m < last + 1 → refuseRoom room PastMemory ≡ writeOf board m first last room
+    unfolding writeOf
+    write-past h l = sym (cond-false _ _ t ∙ cond-false _ _ (le-ltb last first h) ∙ cond-true _ _ (lt-ltb (length m) (last + 1) l))
+
+    pub write-here : first ≤ last → last + 1 ≤ length m → writing room (regionImage board m first last) ≡ writeOf board m first last room
+    unfolding writeOf
+    write-here h l = sym (cond-false _ _ t ∙ cond-false _ _ (le-ltb last first h) ∙ cond-false _ _ (le-ltb (length m) (last + 1) l))

@@ -1,0 +1,8 @@
+-- Laws of bytes and words, of reading, and of the loops.
+pub mod ByteLaws
+pub mod ReadLaws
+pub mod PassLaws
+pub mod LoadLaws
+pub mod EmitLaws
+pub mod TripLaws
+pub mod DamageLaws

@@ -1,0 +1,82 @@
+-- What the loader does with the first pass's answer, and that no two answers are reported alike.
+use Prim.Native.Nat.{ℕ, _+_, _-_, _%_}
+use mathlib.Core.Path.{_≡_, refl, sym, ap, _∙_}
+use mathlib.Core.Bool.{Bool, true, false, cond}
+use mathlib.Core.List.{List, [], _∷_}
+use native.Mathlib.Omega.{arith}
+use lib.Dec.{eqb}
+use lib.ListN.{length, take, drop}
+use Rattle.refusal.specs.declared.Refusal.{Refusal}
+use Rattle.refusal.specs.declared.Refusal.the-variants.{MemoryTooLong, MalformedImage, WrongBoard, SumDiffers}
+use Rattle.refusal.specs.Refusals.{refusalNumber}
+use Rattle.refusal.proofs.Laws.{numbers-apart}
+use Rattle.memory.specs.Memory.{tooLong}
+use Rattle.word.specs.Word.{wrapAdd}
+use Rattle.image.specs.declared.LoadAnswer.{LoadAnswer}
+use Rattle.image.specs.declared.LoadAnswer.the-variants.{Refused, Loaded}
+use Rattle.image.specs.declared.parse.Head.{Head}
+use Rattle.image.specs.declared.parse.Head.the-variants.{Board, Malformed}
+use Rattle.image.specs.declared.check.Checked.{Checked}
+use Rattle.image.specs.declared.check.Checked.the-variants.{Whole, Broken}
+use Rattle.image.specs.Format.{recordsSum, checksum}
+use Rattle.image.specs.Read.{headOf, Body, whole, broken, bodyOf}
+use Rattle.image.specs.Answer.{Reported, refused, answered, loadReported, LoadAnswersApart}
+use Rattle.image.specs.Load.{Loading, refuse, placed, accept, isFor, sumTested, boardTested, loadOf, loaded}
+use Rattle.image.specs.Pass.{summary, isWhole, placedBody}
+use Rattle.image.proofs.PassLaws.{mod-right}
+use Rattle.image.proofs.ByteLaws.{rest}
+use Rattle.word.proofs.Choice.{cond-true, cond-false}
+
+pub load-answers-apart : LoadAnswersApart
+load-answers-apart (Refused a) (Refused b) e =
+    let n : refusalNumber a ≡ refusalNumber b = cc in ap Refused (numbers-apart a b n)
+load-answers-apart (Refused a) (Loaded b) e = let z : _≡_ {A = ℕ} 0 1 = cc in absurd (omega arith)
+load-answers-apart (Loaded a) (Refused b) e = let z : _≡_ {A = ℕ} 0 1 = cc in absurd (omega arith)
+load-answers-apart (Loaded a) (Loaded b) e = cc
+
+-- the sum test, as the code makes it and as the definition has it
+tested : (m : List ℕ) (head n s stated : ℕ) (b : Body) (t : Bool) → Whole n s stated ≡ summary 0 0 b → eqb (wrapAdd head s) stated ≡ t
+    → sumTested m head b ≡ cond t (record { answer = answered n; memory = placedBody m b }) (refuse m SumDiffers)
+unfolding wrapAdd checksum
+tested m head n s stated (whole rs st) t e h =
+    let eo : n ≡ 0 + length rs = cc in
+    let en : n ≡ length rs = omega arith in
+    let es : s ≡ (0 + recordsSum rs) % 65536 = cc in
+    let et : stated ≡ st = cc in
+    let z : 0 + recordsSum rs ≡ recordsSum rs = omega arith in
+    rw (← et, ← en, ← h, es, z, mod-right head (recordsSum rs))
+tested m head n s stated (broken r) t e h = let z : _≡_ {A = ℕ} 0 1 = cc in absurd (omega arith)
+
+module _ (m : List ℕ) (head : ℕ) (b : Body) {n s stated : ℕ} (e : Whole n s stated ≡ summary 0 0 b) where
+  pub whole-accepted : {m′ : List ℕ} → eqb (wrapAdd head s) stated ≡ true → m′ ≡ placedBody m b → loaded (Loaded n) m′ ≡ sumTested m head b
+  whole-accepted h g = rw g (sym (tested m head n s stated b true e h))
+
+  pub whole-refused : eqb (wrapAdd head s) stated ≡ false → loaded (Refused SumDiffers) m ≡ sumTested m head b
+  whole-refused h = sym (tested m head n s stated b false e h)
+
+pub whole-known : (b : Body) {n s stated : ℕ} → Whole n s stated ≡ summary 0 0 b → isWhole b ≡ true
+whole-known (whole rs st) e = refl
+whole-known (broken r) e = let z : _≡_ {A = ℕ} 0 1 = cc in absurd (omega arith)
+
+pub broken-refused : (m : List ℕ) (head : ℕ) (r : Refusal) (b : Body) → Broken r ≡ summary 0 0 b → loaded (Refused r) m ≡ sumTested m head b
+broken-refused m head r (whole rs st) e = let z : _≡_ {A = ℕ} 0 1 = cc in absurd (omega arith)
+broken-refused m head r (broken q) e = let f : r ≡ q = cc in rw f
+
+-- The loader's ways, in document 01's order.
+module _ (board : ℕ) (m file : List ℕ) where
+  pub load-long : tooLong m ≡ true → loadOf board m file ≡ refuse m MemoryTooLong
+  unfolding loadOf
+  load-long h = cond-true _ _ h
+
+  pub load-head : tooLong m ≡ false → {h : Head} → headOf file ≡ h → loadOf board m file ≡ boardTested m board file h
+  unfolding loadOf
+  load-head t e = cond-false _ _ t ∙ ap (boardTested m board file) e
+
+  -- the code reads the head from the file, and the rest from a slice of it
+  module _ {named : ℕ} (t : tooLong m ≡ false) (e : headOf file ≡ Board named) where
+    pub load-other : isFor named board ≡ false → loaded (Refused WrongBoard) m ≡ loadOf board m file
+    load-other h = sym (load-head t e ∙ cond-false _ _ h)
+
+    pub load-here : {o : Loading} → isFor named board ≡ true
+        → o ≡ sumTested m named (bodyOf (length m) (take (length file - 4) (drop 4 file))) → o ≡ loadOf board m file
+    load-here h g = rw (rest file 4) at g ∙ sym (load-head t e ∙ cond-true _ _ h)

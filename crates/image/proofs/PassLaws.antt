@@ -1,0 +1,203 @@
+-- The loops' invariants, and what each turn of a loop does to them.
+use Prim.Native.Nat.{ℕ, zero, suc, _+_, _-_, _*_, _%_, _<_, _≤_}
+use mathlib.Core.Path.{_≡_, refl, sym, ap, _∙_}
+use mathlib.Core.Bool.{Bool, true, false}
+use mathlib.Core.List.{List, [], _∷_, _++_}
+use native.Mathlib.Omega.{arith}
+use native.Mathlib.Numerals.{add-one}
+use lib.Dec.{lit<}
+use lib.ListN.{length, getD, take, drop, set, length-take, length-drop}
+use lib.Seq.{take-suc, take-length, drop-drop, sets, length-sets}
+use Rattle.refusal.specs.declared.Refusal.{Refusal}
+use Rattle.image.specs.declared.parse.Part.{Part}
+use Rattle.image.specs.declared.parse.Part.the-variants.{Record as AtRecord, Tail, Offence}
+use Rattle.image.specs.declared.check.Checked.{Checked}
+use Rattle.image.specs.declared.check.Checked.the-variants.{Whole, Broken}
+use Rattle.word.specs.Word.{wrapAdd}
+use Rattle.word.proofs.WordLaws.{add-low}
+use Rattle.image.specs.Bytes.{wordAt, wordsOf, overwrite}
+use Rattle.image.specs.Format.{Record, recordAt, total, recordSum, recordsSum}
+use Rattle.image.specs.Read.{partOf, Body, whole, broken, withRecord, follow, bodyOf}
+use Rattle.image.specs.Load.{placed}
+use Rattle.image.specs.Pass.{summary, isWhole, placedBody}
+use Rattle.image.proofs.ByteLaws.{rest, words-length, record-word, total-step, sets-split, overwrite-sets, overwrite-length}
+use Rattle.image.proofs.ReadLaws.{Sound, part-sound, body-law}
+
+-- a sum modulo 65,536 may be taken modulo 65,536 on the way
+pub mod-left : (x y : ℕ) → (x % 65536 + y) % 65536 ≡ (x + y) % 65536
+mod-left x y = omega arith
+
+pub mod-right : (x y : ℕ) → (x + y % 65536) % 65536 ≡ (x + y) % 65536
+mod-right x y = omega arith
+
+-- The sum of the first i words of a list.
+pub record Summing (ws : List ℕ) (i sum : ℕ) : Type 0 where
+  pub within : i ≤ length ws
+  pub sums : sum ≡ total (take i ws) % 65536
+
+pub summing : (ws : List ℕ) → Summing ws 0 0
+summing ws = record { within = omega arith; sums = refl }
+
+pub summing-on : {ws : List ℕ} {i sum w next : ℕ} → Summing ws i sum → i < length ws → w ≡ getD ws i 0 → next ≡ wrapAdd sum w → Summing ws (i + 1) next
+unfolding wrapAdd
+summing-on {ws} {i} k h e f =
+    let t = total-step ws i h in
+    let s = k .sums in
+    record { within = omega arith; sums = omega arith }
+
+pub summing-end : {ws : List ℕ} {i sum : ℕ} → Summing ws i sum → length ws ≤ i → sum ≡ total ws % 65536
+summing-end {ws} {i} k h =
+    let w = k .within in
+    let e : i ≡ length ws = omega arith in
+    k .sums ∙ rw (e, take-length)
+
+-- The sum of a record from the code's two sums: address and count, and its words.
+pub record-sums : (a c : ℕ) (ws : List ℕ) {x y r : ℕ} → length ws ≡ c → x ≡ wrapAdd a c → y ≡ total ws % 65536 → r ≡ wrapAdd x y
+    → r ≡ recordSum (record { address = a; words = ws }) % 65536
+unfolding wrapAdd
+record-sums a c ws l e f g = rw (g, e, f, l) (mod-left (a + c) (total ws % 65536) ∙ mod-right (a + c) (total ws))
+
+-- The first i of a run of words stored from an address on.
+pub record Laying (d₀ : List ℕ) (a : ℕ) (ws d : List ℕ) (i : ℕ) : Type 0 where
+  pub within : i ≤ length ws
+  pub laid : d ≡ sets d₀ a (take i ws)
+
+pub laying : (d : List ℕ) (a : ℕ) (ws : List ℕ) → Laying d a ws d 0
+laying d a ws = record { within = omega arith; laid = refl }
+
+pub laying-length : {d₀ : List ℕ} {a : ℕ} {ws d : List ℕ} {i : ℕ} → Laying d₀ a ws d i → length d ≡ length d₀
+laying-length {d₀} {a} {ws} {d} {i} k = ap length (k .laid) ∙ length-sets d₀ a (take i ws)
+
+pub laying-on : {d₀ : List ℕ} {a : ℕ} {ws d : List ℕ} {i w : ℕ} → Laying d₀ a ws d i → i < length ws → w ≡ getD ws i 0
+    → Laying d₀ a ws (set d (a + i) w) (i + 1)
+laying-on {d₀} {a} {ws} {d} {i} {w} k h e =
+    let lt = length-take i ws in
+    let n : length (take i ws) ≡ i = omega arith in
+    record { within = omega arith; laid = rw (add-one, take-suc ws i 0, sets-split d₀ a (take i ws) (getD ws i 0 ∷ []), n, k .laid, e) }
+
+pub laying-end : {d₀ : List ℕ} {a : ℕ} {ws d : List ℕ} {i : ℕ} → Laying d₀ a ws d i → length ws ≤ i → a + length ws ≤ length d₀ → d ≡ overwrite d₀ a ws
+laying-end {d₀} {a} {ws} {d} {i} k h l =
+    let w = k .within in
+    let e : i ≡ length ws = omega arith in
+    k .laid ∙ rw (e, take-length) (sym (overwrite-sets d₀ a ws l))
+
+-- One record more of a body: what the first pass makes of it.
+summary-on : (n sum next : ℕ) (r : Record) (b : Body) → next ≡ wrapAdd sum (recordSum r % 65536) → summary (n + 1) next b ≡ summary n sum (withRecord r b)
+unfolding wrapAdd
+summary-on n sum next r (whole rs stated) h =
+    let e : n + 1 + length rs ≡ n + suc (length rs) = omega arith in
+    let f : (next + recordsSum rs) % 65536 ≡ (sum + (recordSum r + recordsSum rs)) % 65536 = omega arith in
+    rw (e, f)
+summary-on n sum next r (broken e) h = refl
+
+-- A pass that has come to byte at of a body, which is read for a memory of len words.
+pub record Reading (len : ℕ) (body : List ℕ) (at : ℕ) : Type 0 where
+  pub within : at ≤ length body
+
+-- The first pass: the records before byte at are counted and summed.
+pub record Checking (len : ℕ) (body : List ℕ) (at n sum : ℕ) : Type 0 where
+  pub here : Reading len body at
+  pub few : n ≤ at
+  pub small : sum < 65536
+  pub same : summary n sum (bodyOf len (drop at body)) ≡ summary 0 0 (bodyOf len body)
+
+pub checking : (len : ℕ) (body : List ℕ) → Checking len body 0 0 0
+checking len body = record { here = record { within = omega arith }; few = omega arith; small = lit< tt; same = refl }
+
+-- what the next part shows; the code reads it off a slice from byte at on
+module _ {len : ℕ} {body : List ℕ} {at : ℕ} {p : Part} (k : Reading len body at) (e : p ≡ partOf len (take (length body - at) (drop at body))) where
+  part-is : p ≡ partOf len (drop at body)
+  part-is = rw (rest body at) at e
+
+  pub part-whole : {a c : ℕ} → p ≡ AtRecord a c → Sound len (take (length body - at) (drop at body)) a c
+  part-whole {a} {c} f = rw (rest body at) (part-sound len (drop at body) a c (sym part-is ∙ f))
+
+  pub reading-on : {a c : ℕ} → p ≡ AtRecord a c → Reading len body (at + (6 + c * 2))
+  reading-on {a} {c} f =
+      let s = part-sound len (drop at body) a c (sym part-is ∙ f) in
+      let w = k .within in
+      record { within = omega (arith, s .complete, length-drop at body) }
+
+  pub reading-less : {a c : ℕ} → p ≡ AtRecord a c → length body - (at + (6 + c * 2)) < length body - at
+  reading-less f = omega (arith, reading-on f .within)
+
+  body-is : {q : Part} → p ≡ q → bodyOf len (drop at body) ≡ follow (bodyOf len) (drop at body) q
+  body-is f = body-law len (drop at body) ∙ ap (follow (bodyOf len) (drop at body)) (sym part-is ∙ f)
+
+module _ {len : ℕ} {body : List ℕ} {at n sum : ℕ} {p : Part} (k : Checking len body at n sum)
+    (e : p ≡ partOf len (take (length body - at) (drop at body))) where
+  pub checking-on : {a c t next : ℕ} → p ≡ AtRecord a c
+      → t ≡ recordSum (recordAt a c (take (length body - at) (drop at body))) % 65536 → next ≡ wrapAdd sum t
+      → Checking len body (at + (6 + c * 2)) (n + 1) next
+  checking-on {a} {c} {t} {next} f g h =
+      let u : next ≡ wrapAdd sum (recordSum (recordAt a c (drop at body)) % 65536) = h ∙ ap (wrapAdd sum) (rw (rest body at) at g) in
+      record {
+        here = reading-on (k .here) e f;
+        few = omega (arith, k .few);
+        small = rw h (add-low sum t);
+        same =
+            rw (← drop-drop (6 + c * 2) at body) (
+            summary-on n sum next (recordAt a c (drop at body)) (bodyOf len (drop (6 + c * 2) (drop at body))) u
+            ∙ ap (summary n sum) (sym (body-is (k .here) e f))
+            ∙ k .same);
+      }
+
+  pub checking-tail : {stated : ℕ} → p ≡ Tail stated → Whole n sum stated ≡ summary 0 0 (bodyOf len body)
+  checking-tail {stated} f =
+      let z : n + 0 ≡ n = omega arith in
+      let m : (sum + 0) % 65536 ≡ sum = omega (arith, k .small) in
+      rw (z, m) at (ap (summary n sum) (sym (body-is (k .here) e f))) ∙ k .same
+
+  pub checking-broken : {r : Refusal} → p ≡ Offence r → Broken r ≡ summary 0 0 (bodyOf len body)
+  checking-broken f = ap (summary n sum) (sym (body-is (k .here) e f)) ∙ k .same
+
+whole-rest : (r : Record) (b : Body) → isWhole (withRecord r b) ≡ true → isWhole b ≡ true
+whole-rest r (whole rs stated) h = refl
+whole-rest r (broken e) h = h
+
+placed-rest : (m : List ℕ) (r : Record) (b : Body) → isWhole b ≡ true → placedBody (overwrite m (r .address) (r .words)) b ≡ placedBody m (withRecord r b)
+placed-rest m r (whole rs stated) h = refl
+placed-rest m r (broken e) h = let z : _≡_ {A = ℕ} 0 1 = cc in absurd (omega arith)
+
+-- The second pass: the records before byte at are stored, and what is left is known to be whole.
+pub record Storing (body m₀ : List ℕ) (at : ℕ) (m : List ℕ) : Type 0 where
+  pub here : Reading (length m₀) body at
+  pub size : length m ≡ length m₀
+  pub good : isWhole (bodyOf (length m₀) (drop at body)) ≡ true
+  pub same : placedBody m (bodyOf (length m₀) (drop at body)) ≡ placedBody m₀ (bodyOf (length m₀) body)
+
+pub storing : (body m : List ℕ) → isWhole (bodyOf (length m) body) ≡ true → Storing body m 0 m
+storing body m h = record { here = record { within = omega arith }; size = refl; good = h; same = refl }
+
+module _ {body m₀ : List ℕ} {at : ℕ} {m : List ℕ} {p : Part} (k : Storing body m₀ at m)
+    (e : p ≡ partOf (length m) (take (length body - at) (drop at body))) where
+  -- the memory keeps its length, so that both passes read alike
+  pub storing-part : p ≡ partOf (length m₀) (take (length body - at) (drop at body))
+  storing-part = rw (k .size) at e
+
+  pub storing-on : {a c : ℕ} {n : List ℕ} → p ≡ AtRecord a c
+      → n ≡ overwrite m a (recordAt a c (take (length body - at) (drop at body)) .words) → Storing body m₀ (at + (6 + c * 2)) n
+  storing-on {a} {c} {n} f g =
+      let r = recordAt a c (drop at body) in
+      let b = bodyOf (length m₀) (drop (6 + c * 2) (drop at body)) in
+      let v : n ≡ overwrite m a (r .words) = rw (rest body at) at g in
+      let w = part-whole (k .here) storing-part f .within in
+      let l = words-length c (drop 6 (drop at body)) in
+      let o = overwrite-length m a (r .words) (omega (arith, k .size)) in
+      let i = body-is (k .here) storing-part f in
+      let h : isWhole b ≡ true = whole-rest r b (rw i at (k .good)) in
+      record {
+        here = reading-on (k .here) storing-part f;
+        size = ap length v ∙ o ∙ k .size;
+        good = rw (← drop-drop (6 + c * 2) at body) h;
+        same = rw (← drop-drop (6 + c * 2) at body, v) (placed-rest m r b h ∙ ap (placedBody m) (sym i) ∙ k .same);
+      }
+
+  pub storing-tail : {stated : ℕ} → p ≡ Tail stated → m ≡ placedBody m₀ (bodyOf (length m₀) body)
+  storing-tail f = ap (placedBody m) (sym (body-is (k .here) storing-part f)) ∙ k .same
+
+  pub storing-broken : {A : Type 0} {r : Refusal} → p ≡ Offence r → A
+  storing-broken f =
+      let b : false ≡ true = ap isWhole (sym (body-is (k .here) storing-part f)) ∙ k .good in
+      let z : _≡_ {A = ℕ} 0 1 = cc in
+      absurd (omega arith)

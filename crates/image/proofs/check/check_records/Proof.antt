@@ -1,0 +1,63 @@
+use Prim.Native.Nat.{_-_}
+use native.Mathlib.Omega.{arith}
+use borrow.Author.Needs.{needs}
+use lib.ListN.{length}
+use Rattle.image.proofs.PassLaws.{Checking, checking, part-whole, reading-on, reading-less, checking-on, checking-tail, checking-broken}
+use Rattle.image.proofs.check.check_records.Statement.{statement}
+use Rattle.image.proofs.check.check_records.Tie as tie
+
+abbrev Inv-loop : tie.InvT-loop
+Inv-loop body size at₀ records₀ sum₀ at records sum = Checking size body at records sum
+
+abbrev μ-loop : tie.MeasureT-loop
+μ-loop body size at₀ records₀ sum₀ at records sum = length body - at
+
+loop-holds : tie.Need-loop-holds Inv-loop μ-loop
+loop-holds c = checking _ _
+
+sum-record-requires : tie.Need-sum-record-requires Inv-loop μ-loop
+sum-record-requires c κs = part-whole (c .before .before .before .before .before .before .loop .inv .here) (c .before .before .before .before .read-part .ensures) (c .before .before .part .given .1) .complete
+
+add-at-2 : tie.Need-add-at-2 Inv-loop μ-loop
+add-at-2 c = omega (arith, reading-on (c .before .before .before .before .before .before .before .before .loop .inv .here) (c .before .before .before .before .before .before .read-part .ensures) (c .before .before .before .before .part .given .1) .within)
+
+loop-less : tie.Need-loop-less Inv-loop μ-loop
+loop-less c = reading-less (c .before .before .before .before .before .before .before .before .loop .inv .here) (c .before .before .before .before .before .before .read-part .ensures) (c .before .before .before .before .part .given .1)
+
+loop-again : tie.Need-loop-again Inv-loop μ-loop
+loop-again c = checking-on (c .before .before .before .before .before .before .before .before .loop .inv) (c .before .before .before .before .before .before .read-part .ensures) (c .before .before .before .before .part .given .1) (c .before .sum-record .ensures) (c .wrapping-add .ensures)
+
+returns : tie.Need-returns Inv-loop μ-loop
+returns c = checking-tail (c .before .before .before .before .before .loop .inv) (c .before .before .before .read-part .ensures) (c .before .part2 .given .1)
+
+returns-2 : tie.Need-returns-2 Inv-loop μ-loop
+returns-2 c = checking-broken (c .before .before .before .before .before .loop .inv) (c .before .before .before .read-part .ensures) (c .before .part3 .given .1)
+
+pub check-records-spec : {M : Type 1} → statement M
+check-records-spec =
+    tie.close
+    (tie.spec
+    Inv-loop
+    μ-loop
+    loop-holds
+    (λ c. search needs)
+    (λ c. search needs)
+    (λ c. search needs)
+    (λ c κs. search needs)
+    (λ c. search needs)
+    (λ c. search needs)
+    (λ c. search needs)
+    (λ c. search needs)
+    sum-record-requires
+    (λ c κs. search needs)
+    (λ c. search needs)
+    (λ c. search needs)
+    (λ c. search needs)
+    (λ c. search needs)
+    add-at-2
+    loop-less
+    loop-again
+    (λ c. search needs)
+    returns
+    (λ c. search needs)
+    returns-2)

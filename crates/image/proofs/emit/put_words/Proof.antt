@@ -1,0 +1,46 @@
+use Prim.Native.Nat.{_-_}
+use native.Mathlib.Omega.{arith}
+use borrow.Author.Needs.{needs}
+use lib.ListN.{length}
+use Rattle.image.proofs.EmitLaws.{Putting, putting, putting-length, putting-on, putting-end}
+use Rattle.image.proofs.emit.put_words.Statement.{statement}
+use Rattle.image.proofs.emit.put_words.Tie as tie
+
+abbrev Inv-loop : tie.InvT-loop
+Inv-loop room₀ at words i₀ room i = Putting room₀ at words room i
+
+abbrev μ-loop : tie.MeasureT-loop
+μ-loop room₀ at words i₀ room i = length words - i
+
+loop-holds : tie.Need-loop-holds Inv-loop μ-loop
+loop-holds c = putting _ _ _
+
+put-word-requires : tie.Need-put-word-requires Inv-loop μ-loop
+put-word-requires c κs = omega (arith, putting-length (c .before .before .before .loop .inv))
+
+loop-again : tie.Need-loop-again Inv-loop μ-loop
+loop-again c = putting-on (c .before .before .before .before .before .before .loop .inv) (c .before .before .before .before .before .loop-test .taken) (c .before .before .put-word .ensures)
+
+same-length : tie.Need-same-length Inv-loop μ-loop
+same-length c = putting-length (c .before .loop .inv)
+
+returns : tie.Need-returns Inv-loop μ-loop
+returns c = putting-end (c .before .loop .inv) (c .loop-test .left)
+
+pub put-words-spec : {M : Type 1} → statement M
+put-words-spec =
+    tie.close
+    (tie.spec
+    Inv-loop
+    μ-loop
+    loop-holds
+    (λ c. search needs)
+    (λ c. search needs)
+    (λ c. search needs)
+    (λ c. search needs)
+    put-word-requires
+    (λ c. search needs)
+    (λ c. search needs)
+    loop-again
+    same-length
+    returns)

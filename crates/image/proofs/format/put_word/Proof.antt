@@ -1,0 +1,25 @@
+use native.Mathlib.Numerals.{add-one}
+use Prim.Native.Nat.{_/_}
+use native.Mathlib.Omega.{arith}
+use lib.ListN.{length-set}
+use borrow.Author.Needs.{needs}
+use Rattle.image.proofs.format.put_word.Statement.{statement}
+use Rattle.image.proofs.format.put_word.Tie as tie
+
+slice-write-room-2 : tie.Need-slice-write-room-2
+slice-write-room-2 c = omega (arith, length-set (c .args .room .now) (c .args .at) (c .args .word / 256))
+
+returns : tie.Need-returns
+returns c = rw add-one
+
+pub put-word-spec : {M : Type 1} → statement M
+put-word-spec =
+    tie.close
+    (tie.spec
+    (λ c. search needs)
+    (λ c. search needs)
+    (λ c. search needs)
+    (λ c. search needs)
+    slice-write-room-2
+    (λ c. search needs)
+    returns)

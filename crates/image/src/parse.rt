@@ -1,0 +1,85 @@
+// Reads the parts of a file, one at a time: the head, and after it what stands at the front of the rest.
+ghost use mathlib.Core.Path.{_≡_};
+ghost use Rattle.image.specs.Read.{headOf, recordOf, tailOf, partOf};
+use crate::format;
+use refusal::Refusal;
+
+// The head names the board that the file is for.
+pub(crate) enum Head {
+    Board(u16),
+    Malformed,
+}
+
+// What stands at the front of the bytes after the head: a record, whose words follow its count; the tail, with the sum that it states; or
+// an offence.
+pub(crate) enum Part {
+    Record { address: u16, count: u16 },
+    Tail(u16),
+    Offence(Refusal),
+}
+
+pub(crate) fn read_head(file: &[u8]) -> Head
+    ensures { λ r. ⌜ r ≡ headOf (now (file .entry)) ⌝ }
+{
+    if file.len() < format::HEAD_BYTES {
+        return Head::Malformed;
+    }
+    if format::word_at(file, 0) != format::ID_MARK {
+        return Head::Malformed;
+    }
+    Head::Board(format::word_at(file, 2))
+}
+
+// A record for a memory of `size` words: its count is tested before its words are, and these before where they go.
+fn read_record(bytes: &[u8], size: usize) -> Part
+    ensures { λ r. ⌜ r ≡ recordOf size (now (bytes .entry)) ⌝ }
+{
+    if bytes.len() < format::RECORD_HEAD_BYTES {
+        return Part::Offence(Refusal::MalformedImage);
+    }
+    let address = format::word_at(bytes, 2);
+    let count = format::word_at(bytes, 4);
+    let words = count as usize;
+    if words == 0 {
+        return Part::Offence(Refusal::MalformedImage);
+    }
+    if format::RECORD_LIMIT < words {
+        return Part::Offence(Refusal::MalformedImage);
+    }
+    if bytes.len() < format::RECORD_HEAD_BYTES + words * 2 {
+        return Part::Offence(Refusal::MalformedImage);
+    }
+    if size < address as usize + words {
+        return Part::Offence(Refusal::PastMemory);
+    }
+    Part::Record {
+        address: address,
+        count: count,
+    }
+}
+
+// The tail is the file's last four bytes.
+fn read_tail(bytes: &[u8]) -> Part
+    ensures { λ r. ⌜ r ≡ tailOf (now (bytes .entry)) ⌝ }
+{
+    if bytes.len() != format::TAIL_BYTES {
+        return Part::Offence(Refusal::MalformedImage);
+    }
+    Part::Tail(format::word_at(bytes, 2))
+}
+
+pub(crate) fn read_part(bytes: &[u8], size: usize) -> Part
+    ensures { λ r. ⌜ r ≡ partOf size (now (bytes .entry)) ⌝ }
+{
+    if bytes.len() < 2 {
+        return Part::Offence(Refusal::MalformedImage);
+    }
+    let mark = format::word_at(bytes, 0);
+    if mark == format::AT_MARK {
+        return read_record(bytes, size);
+    }
+    if mark == format::OK_MARK {
+        return read_tail(bytes);
+    }
+    Part::Offence(Refusal::MalformedImage)
+}
