@@ -5,12 +5,12 @@ use mathlib.Core.Bool.{Bool, true, false, cond}
 use mathlib.Core.List.{List, [], _∷_}
 use native.Mathlib.Decide.{decLt}
 use native.Mathlib.Omega.{arith}
-use lib.Dec.{leb, ltb, eqb}
+use lib.Dec.{leb, ltb, eqb, lit<}
 use Rattle.refusal.specs.declared.Refusal.the-variants.{NotAListingLine}
 use Rattle.refusal.specs.Refusals.{refusalNumber}
 use Rattle.word.specs.Word.{wrapAdd}
 use Rattle.word.proofs.Choice.{cond-both}
-use Rattle.memory.specs.Memory.{peekOf}
+use Rattle.memory.specs.Memory.{peekOf, Words}
 use Rattle.decode.specs.Decode.{opcodeOf}
 use Rattle.listing.specs.declared.line.Line.{Line}
 use Rattle.listing.specs.declared.entry.Entry.{Entry}
@@ -21,6 +21,7 @@ use Rattle.listing.specs.Answer.{AssemblyReport, rejected, assembled}
 use Rattle.listing.specs.Disassemble.{entryAt, textAt}
 use Rattle.listing.specs.Assemble.{readOf, wordCount, jumpWord, jumpWords, plainWords, wordsOf, firstWords, cutAt, memoryAs, triedIn, assembleOf}
 use Rattle.listing.proofs.Tests.{clash, same-true, same-eq}
+use Rattle.listing.proofs.Table.{base-at, base-low}
 use Rattle.listing.proofs.Entries.{entry-in}
 use Rattle.listing.proofs.Back.{read-row, read-16}
 use Rattle.listing.proofs.Trip.{entryWith, cutWith, entry-with, cut-with, Trip, trip}
@@ -75,24 +76,35 @@ module _ (read : ℕ → ℕ) (at : ℕ) (double : Bool) (word : read (wrapAdd a
       ∙ there .first
       ∙ sym (cut-with read at double)
 
--- the second word of a text read as a line of a row
-abbrev SecondFits : List ℕ → Type 0
-SecondFits ws = peekOf ws (wrapAdd 0 1) < 65536
+three-fit : (x y z : ℕ) → x < 65536 → y < 65536 → z < 65536 → Words (x ∷ y ∷ z ∷ [])
+unfolding peekOf
+three-fit x y z h k l zero = h
+three-fit x y z h k l (suc zero) = k
+three-fit x y z h k l (suc (suc zero)) = l
+three-fit x y z h k l (suc (suc (suc i))) = lit< tt
 
-words-fit : (l : Line) (double : Bool) → l .row < 86 → l .operand < 65536 → SecondFits (wordsOf l double)
-unfolding wordsOf jumpWords jumpWord plainWords peekOf wrapAdd
+-- the words of a line are 16-bit words
+words-fit : (l : Line) (double : Bool) → l .row < 86 → l .operand < 65536 → Words (wordsOf l double)
+unfolding wordsOf jumpWords jumpWord plainWords
 words-fit l double h k =
-    cond-both SecondFits (leb 79 (l .row))
+    let base : baseOf (l .row) < 1024 = subst (λ (n : ℕ). n < 1024) (base-at (l .row) h) (base-low (l .row) h) in
+    cond-both Words (leb 79 (l .row))
+    (three-fit _ _ _ (omega arith)
     (fits (cond (ltb (l .row) 82) (768 + (l .row - 79)) (l .d % 4 * 256 + (l .row - 82)))
     (cond-both (λ n. n < 2000) (ltb (l .row) 82) (omega arith) (omega arith)))
-    (cond-both SecondFits (eqb (wordCount (baseOf (l .row) + l .s % 16 * 8 + l .d % 16) double) 3) (omega arith) k)
+    (omega arith))
+    (cond-both Words (eqb (wordCount (baseOf (l .row) + l .s % 16 * 8 + l .d % 16) double) 3)
+    (three-fit _ _ _ (omega arith) (omega arith) (omega arith))
+    (three-fit _ _ _ (omega arith) k (omega arith)))
   where
     fits : (n : ℕ) → n < 2000 → n + l .operand / 1024 * 4 < 65536
     fits n m = omega arith
 
-pub second-fits : (r : ℕ) (text : List ℕ) (double : Bool) → r < 86 → memoryAs r text double (wrapAdd 0 1) < 65536
-second-fits r text double h =
-    words-fit (readOf r text) double (rw (read-row r text) h) (read-16 r text)
+pub read-words : (r : ℕ) (text : List ℕ) (double : Bool) → r < 86 → Words (wordsOf (readOf r text) double)
+read-words r text double h = words-fit (readOf r text) double (rw (read-row r text) h) (read-16 r text)
+
+second-fits : (r : ℕ) (text : List ℕ) (double : Bool) → r < 86 → memoryAs r text double (wrapAdd 0 1) < 65536
+second-fits r text double h = read-words r text double h (wrapAdd 0 1)
 
 module _ (text : List ℕ) (double : Bool) (g : ℕ) (low : g < 86) (guessed : Guesses text g) where
   abbrev accepts : ℕ → Bool

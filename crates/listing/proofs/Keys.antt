@@ -7,6 +7,7 @@ use native.Mathlib.Omega.{arith}
 use lib.Dec.{T, eqb, leb, ltb, eqb→eq, leb→le}
 use lib.ListN.{length, getD}
 use borrow.Author.Tests.{eqb-true, ltb-true, ltb-false, lt-ltb, le-ltb}
+use Rattle.word.proofs.Choice.{cond-both}
 use Rattle.listing.specs.Rows.{rows, templateOf}
 use Rattle.listing.specs.declared.line.Line.{Line}
 use Rattle.listing.specs.Line.{signOf, glyphOf, textOf}
@@ -130,3 +131,15 @@ module _ (l : Line) (h : l .row < 86) where
 
 pub guesses : (text : List ℕ) → Guesses text (getD rowOfKey (keyOf text) 0)
 guesses text l h e = ap (λ (x : List ℕ). getD rowOfKey (keyOf x) 0) e ∙ key-leads l h
+
+-- a line's own row, and a row to read any text by
+pub own-row : (l : Line) → l .row < 86 → Guesses (textOf l) (l .row)
+own-row l h m k e = sym (key-leads l h) ∙ guesses (textOf l) m k e
+
+key-256 : (text : List ℕ) → keyOf text < 256
+unfolding keyOf
+key-256 text =
+    cond-both (λ n. n < 256) (ltb (length text) 3) (omega arith) (cond-both (λ n. n < 256) (ltb (length text) 8) (omega arith) (omega arith))
+
+pub guess-in : (text : List ℕ) → getD rowOfKey (keyOf text) 0 < 86
+guess-in text = row-of-key (keyOf text) (key-256 text)

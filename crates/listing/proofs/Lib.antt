@@ -8,3 +8,7 @@ pub mod Entries
 pub mod Back
 pub mod Trip
 pub mod Accept
+pub mod RoundTrip
+pub mod Itself
+pub mod RowTable
+pub mod Answers

@@ -4,8 +4,8 @@ use mathlib.Core.Path.{_≡_, refl, sym, ap, _∙_}
 use mathlib.Core.Bool.{Bool, true, false, cond, not, _&&_, _||_}
 use mathlib.Core.List.{List, [], _∷_}
 use native.Mathlib.Omega.{arith}
-use lib.Dec.{T, eqb, leb, ltb, eqb→eq, leb→le, lit<}
-use lib.ListN.{getD}
+use lib.Dec.{T, eqb, leb, ltb, eqb→eq, leb→le, lit<, lit≤}
+use lib.ListN.{length, getD}
 use borrow.Author.Tests.{eqb-true, eqb-false, eq-eqb, ne-eqb, lt-ltb, le-ltb, le-leb, lt-leb}
 use Rattle.word.specs.Word.{wrapAdd}
 use Rattle.word.proofs.Choice.{cond-true, cond-false, cond-both}
@@ -202,6 +202,10 @@ module _ (a b : ℕ) (double : Bool) where
         let l : b % 1024 % 1024 ≡ b % 1024 = omega arith in
         rw (i, j, k, l)
 
+    jump-again : entryWith 4 (a % 1024) (b % 1024) double ≡ entryWith 4 a b double
+    unfolding entryWith
+    jump-again = let j : a % 1024 % 4 ≡ a % 4 = omega arith in rw (j, f, cut-jump)
+
     trip-jump : Trip 4 a b double
     unfolding entryWith cutWith cutOf
     trip-jump =
@@ -212,7 +216,7 @@ module _ (a b : ℕ) (double : Bool) where
           p = a % 1024;
           q = b % 1024;
           words = rw f jump-words;
-          entry = rw (j, f, cut-jump);
+          entry = jump-again;
           first = rw f;
           again = rw (j, f, k, l);
           back = rw f jump-back;
@@ -444,3 +448,64 @@ trip w a b double h k = go (eqb w 4) refl (eqb (a % 4) 3) refl
     go true e true f = rw (eqb-true w 4 e) (trip-none a b double f)
     go true e false f = rw (eqb-true w 4 e) (trip-jump a b double f)
     go false e j f = trip-plain w a b double h e k
+
+-- An instruction of n words lists alike whatever follows them: p and q stand after its opcode, and agree with the words, cut, as far as
+-- these go.
+pub record Agree (n p q : ℕ) (ws : List ℕ) : Type 0 where
+  pub second : 1 < n → p ≡ getD ws 1 0
+  pub third : 2 < n → q ≡ getD ws 2 0
+
+same-operand : (w a b p q n : ℕ) (c : Bool) → T (cond (eqb n 1) true (c && (eqb n 2 || eqb n 3)))
+    → Agree n p q (firstWords (plain-cut n w a b) n) → operandOf n p q ≡ operandOf n a b
+unfolding operandOf
+same-operand w a b p q n c t =
+    by-count (λ (n : ℕ). Agree n p q (firstWords (plain-cut n w a b) n) → operandOf n p q ≡ operandOf n a b)
+    (λ s. refl)
+    (λ s. s .second (lit< tt))
+    (λ s. let i : p ≡ a % 256 = s .second (lit< tt) in let j : q ≡ b % 256 = s .third (lit< tt) in omega arith)
+    n c t
+
+count-length : (ws : List ℕ) (n : ℕ) (c : Bool) → T (cond (eqb n 1) true (c && (eqb n 2 || eqb n 3))) → (1 ≤ n) × (length (firstWords ws n) ≡ n)
+count-length ws n c t =
+    by-count (λ (n : ℕ). (1 ≤ n) × (length (firstWords ws n) ≡ n)) (lit≤ tt, refl) (lit≤ tt, refl) (lit≤ tt, refl) n c t
+
+agree-4 : (a b : ℕ) (double : Bool) (p q : ℕ) → eqb (a % 4) 3 ≡ false → Agree (entryWith 4 a b double .words) p q (cutWith 4 a b double)
+    → entryWith 4 p q double ≡ entryWith 4 a b double
+unfolding entryWith cutWith cutOf
+agree-4 a b double p q f s =
+    let t : Agree 3 p q (4 ∷ a % 1024 ∷ b % 1024 ∷ []) = rw f at s in
+    let i : p ≡ a % 1024 = t .second (lit< tt) in
+    let j : q ≡ b % 1024 = t .third (lit< tt) in
+    rw (i, j) (jump-again a b double f)
+
+agree-jump : (w a b : ℕ) (double : Bool) (p q : ℕ) → w ≡ 4 → eqb (a % 4) 3 ≡ false → Agree (entryWith w a b double .words) p q (cutWith w a b double)
+    → entryWith w p q double ≡ entryWith w a b double
+agree-jump w a b double p q e f = rw e (λ s. agree-4 a b double p q f s)
+
+agree-plain : (w a b : ℕ) (double : Bool) → w < 1024 → eqb w 4 ≡ false → (p q : ℕ) → Agree (entryWith w a b double .words) p q (cutWith w a b double)
+    → entryWith w p q double ≡ entryWith w a b double
+unfolding entryWith cutWith cutOf entryFor
+agree-plain w a b double h e p q s =
+    let n = rowOf (instructionOf w) double .words in
+    let t : Agree n p q (firstWords (plain-cut n w a b) n) = rw e at s in
+    rw e
+    (rw (plain-line w h e (operandOf n p q) p q, plain-line w h e (operandOf n a b) a b, same-operand w a b p q n (occurs 119 (templateOf (shape w .row))) (counts-at w h e double) t))
+
+module _ (w a b : ℕ) (double : Bool) (h : w < 1024) where
+  pub cut-length : (1 ≤ entryWith w a b double .words) × (length (cutWith w a b double) ≡ entryWith w a b double .words)
+  unfolding cutWith entryWith entryFor
+  cut-length = go (eqb w 4) refl (eqb (a % 4) 3) refl
+    where
+      go : (i : Bool) → eqb w 4 ≡ i → (j : Bool) → eqb (a % 4) 3 ≡ j → (1 ≤ entryWith w a b double .words) × (length (cutWith w a b double) ≡ entryWith w a b double .words)
+      go true e true f = rw (e, f) (lit≤ tt, refl)
+      go true e false f = rw (e, f) (lit≤ tt, refl)
+      go false e j f = rw e (count-length (cutOf (rowOf (instructionOf w) double .words) w a b) (rowOf (instructionOf w) double .words) (occurs 119 (templateOf (shape w .row))) (counts-at w h e double))
+
+  pub agree-entry : (p q : ℕ) → (eqb w 4 ≡ true → eqb (a % 4) 3 ≡ true → ⊥) → Agree (entryWith w a b double .words) p q (cutWith w a b double)
+      → entryWith w p q double ≡ entryWith w a b double
+  agree-entry p q apart s = go (eqb w 4) refl (eqb (a % 4) 3) refl
+    where
+      go : (i : Bool) → eqb w 4 ≡ i → (j : Bool) → eqb (a % 4) 3 ≡ j → entryWith w p q double ≡ entryWith w a b double
+      go true e true f = absurd (apart e f)
+      go true e false f = agree-jump w a b double p q (eqb-true w 4 e) f s
+      go false e j f = agree-plain w a b double h e p q s

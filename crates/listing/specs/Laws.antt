@@ -1,4 +1,5 @@
--- What holds of listing and assembling together. Each law is stated here and proved in `proofs/Laws`.
+-- What holds of listing and assembling together. Each law is stated here; `proofs/RoundTrip` proves (a), (c),
+-- (d) and (f), `proofs/Itself` (b), and `proofs/RowTable` (e).
 use Prim.Native.Nat.{ℕ, _<_, _≤_, _%_}
 use mathlib.Core.Path.{_≡_}
 use mathlib.Core.Bool.{Bool, true, false}
