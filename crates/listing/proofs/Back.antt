@@ -1,0 +1,170 @@
+-- A line is read back from its text.
+use Prim.Native.Nat.{ℕ, zero, suc, _+_, _*_, _/_, _%_, _<_, _≤_}
+use mathlib.Core.Path.{_≡_, refl, sym, ap, _∙_}
+use mathlib.Core.Bool.{Bool, true, false, cond, _&&_}
+use mathlib.Core.List.{List, [], _∷_, map}
+use native.Mathlib.Omega.{arith}
+use lib.Dec.{T, eqb, leb, ltb, eqb→eq, lit<}
+use borrow.Author.Tests.{eqb-true, ne-eqb}
+use Rattle.word.proofs.Choice.{cond-both}
+use Rattle.listing.specs.Rows.{templateOf}
+use Rattle.listing.specs.declared.line.Line.{Line}
+use Rattle.listing.specs.Line.{lineWith, digitOf, signOf, fieldOf, glyphOf, textOf}
+use Rattle.listing.specs.Assemble.{valueOf, signValue, takenOf, readIn, readOf}
+use Rattle.listing.proofs.Tests.{below, below-at, both-left, both-right}
+use Rattle.listing.proofs.Table.{isHex, hexes, hexOf, occurs, template-hexes}
+
+abbrev digit-back : ℕ → Bool
+digit-back v = eqb (valueOf (digitOf v)) v
+
+value-digit : (v : ℕ) → v < 16 → valueOf (digitOf v) ≡ v
+unfolding valueOf digitOf
+value-digit v h = eqb→eq (valueOf (digitOf v)) v (below-at digit-back 16 tt v h)
+
+pub value-16 : (c : ℕ) → valueOf c < 16
+unfolding valueOf
+value-16 c = cond-both (λ n. n < 16) (ltb c 65) (omega arith) (omega arith)
+
+-- the row stays, and the operand is a word
+taken-row : (l : Line) (h c : ℕ) → takenOf l h c .row ≡ l .row
+unfolding takenOf
+taken-row l h c = go (ltb h 97) (eqb h 115) (eqb h 100) (eqb h 103)
+  where
+    P : Line → Type 0
+    P x = x .row ≡ l .row
+
+    go : (a b d g : Bool) → P (cond a l (cond b (lineWith (l .row) (valueOf c) (l .d) (l .operand)) (cond d (lineWith (l .row) (l .s) (valueOf c) (l .operand)) (cond g (lineWith (l .row) (signValue c) (l .d) (l .operand)) (lineWith (l .row) (l .s) (l .d) (l .operand % 4096 * 16 + valueOf c))))))
+    go a b d g = cond-both P a refl (cond-both P b refl (cond-both P d refl (cond-both P g refl refl)))
+
+taken-16 : (l : Line) (h c : ℕ) → l .operand < 65536 → takenOf l h c .operand < 65536
+unfolding takenOf
+taken-16 l h c k =
+    let P : Line → Type 0 = λ x. x .operand < 65536 in
+    cond-both P (ltb h 97) k
+    (cond-both P (eqb h 115) k (cond-both P (eqb h 100) k (cond-both P (eqb h 103) k (omega (arith, value-16 c)))))
+
+in-row : (t text : List ℕ) (l : Line) → readIn t text l .row ≡ l .row
+in-row [] text l = refl
+in-row (h ∷ t) [] l = refl
+in-row (h ∷ t) (c ∷ text) l = in-row t text (takenOf l h c) ∙ taken-row l h c
+
+in-16 : (t text : List ℕ) (l : Line) → l .operand < 65536 → readIn t text l .operand < 65536
+in-16 [] text l k = k
+in-16 (h ∷ t) [] l k = k
+in-16 (h ∷ t) (c ∷ text) l k = in-16 t text (takenOf l h c) (taken-16 l h c k)
+
+pub read-row : (r : ℕ) (text : List ℕ) → readOf r text .row ≡ r
+unfolding readOf
+read-row r text = in-row (templateOf r) text (lineWith r 0 0 0)
+
+pub read-16 : (r : ℕ) (text : List ℕ) → readOf r text .operand < 65536
+unfolding readOf
+read-16 r text = in-16 (templateOf r) text (lineWith r 0 0 0) (lit< tt)
+
+-- s and d are read alike whatever the operand is
+module _ (r s d x y : ℕ) where
+  step-s : (h : ℕ) (f g : Line) → f .s ≡ g .s → takenOf f h (glyphOf (lineWith r s d x) h) .s ≡ takenOf g h (glyphOf (lineWith r s d y) h) .s
+  unfolding takenOf glyphOf fieldOf
+  step-s h f g p = go (ltb h 97) refl (eqb h 115) refl (eqb h 100) refl (eqb h 103) refl
+    where
+      go : (a : Bool) → ltb h 97 ≡ a → (b : Bool) → eqb h 115 ≡ b → (c : Bool) → eqb h 100 ≡ c → (e : Bool) → eqb h 103 ≡ e
+          → takenOf f h (glyphOf (lineWith r s d x) h) .s ≡ takenOf g h (glyphOf (lineWith r s d y) h) .s
+      go true i b j c k e l = rw i p
+      go false i true j c k e l = let n : h ≡ 115 = eqb-true h 115 j in rw (i, j, ne-eqb h 103 (λ z. omega arith))
+      go false i false j true k e l = rw (i, j, k) p
+      go false i false j false k true l = rw (i, j, k, l)
+      go false i false j false k false l = rw (i, j, k, l) p
+
+  step-d : (h : ℕ) (f g : Line) → f .d ≡ g .d → takenOf f h (glyphOf (lineWith r s d x) h) .d ≡ takenOf g h (glyphOf (lineWith r s d y) h) .d
+  unfolding takenOf glyphOf fieldOf
+  step-d h f g p = go (ltb h 97) refl (eqb h 115) refl (eqb h 100) refl (eqb h 103) refl
+    where
+      go : (a : Bool) → ltb h 97 ≡ a → (b : Bool) → eqb h 115 ≡ b → (c : Bool) → eqb h 100 ≡ c → (e : Bool) → eqb h 103 ≡ e
+          → takenOf f h (glyphOf (lineWith r s d x) h) .d ≡ takenOf g h (glyphOf (lineWith r s d y) h) .d
+      go true i b j c k e l = rw i p
+      go false i true j c k e l = rw (i, j) p
+      go false i false j true k e l = let n : h ≡ 100 = eqb-true h 100 k in rw (i, j, k, ne-eqb h 103 (λ z. omega arith))
+      go false i false j false k true l = rw (i, j, k, l) p
+      go false i false j false k false l = rw (i, j, k, l) p
+
+  reads-s : (t : List ℕ) (f g : Line) → f .s ≡ g .s → readIn t (map (glyphOf (lineWith r s d x)) t) f .s ≡ readIn t (map (glyphOf (lineWith r s d y)) t) g .s
+  reads-s [] f g p = p
+  reads-s (h ∷ t) f g p = reads-s t _ _ (step-s h f g p)
+
+  reads-d : (t : List ℕ) (f g : Line) → f .d ≡ g .d → readIn t (map (glyphOf (lineWith r s d x)) t) f .d ≡ readIn t (map (glyphOf (lineWith r s d y)) t) g .d
+  reads-d [] f g p = p
+  reads-d (h ∷ t) f g p = reads-d t _ _ (step-d h f g p)
+
+-- the operand is read from its digits alone
+abbrev digitsIn : Line → List ℕ → ℕ → ℕ
+digitsIn l [] x = x
+digitsIn l (h ∷ t) x = digitsIn l t (x % 4096 * 16 + valueOf (glyphOf l h))
+
+hex-step : (l : Line) (h : ℕ) (t : List ℕ) (f : Line) → digitsIn l (hexes t) (takenOf f h (glyphOf l h) .operand) ≡ digitsIn l (hexes (h ∷ t)) (f .operand)
+unfolding takenOf
+hex-step l h t f = go (ltb h 97) refl (eqb h 115) refl (eqb h 100) refl (eqb h 103) refl
+  where
+    go : (a : Bool) → ltb h 97 ≡ a → (b : Bool) → eqb h 115 ≡ b → (c : Bool) → eqb h 100 ≡ c → (e : Bool) → eqb h 103 ≡ e
+        → digitsIn l (hexes t) (takenOf f h (glyphOf l h) .operand) ≡ digitsIn l (hexes (h ∷ t)) (f .operand)
+    go true i b j c k e m = rw i
+    go false i true j c k e m = rw (i, j)
+    go false i false j true k e m = rw (i, j, k)
+    go false i false j false k true m = rw (i, j, k, m)
+    go false i false j false k false m = rw (i, j, k, m)
+
+reads-x : (l : Line) (t : List ℕ) (f : Line) → readIn t (map (glyphOf l) t) f .operand ≡ digitsIn l (hexes t) (f .operand)
+reads-x l [] f = refl
+reads-x l (h ∷ t) f = reads-x l t (takenOf f h (glyphOf l h)) ∙ hex-step l h t f
+
+digits : (x : ℕ) → x < 65536
+    → (((0 % 4096 * 16 + x / 4096 % 16) % 4096 * 16 + x / 256 % 16) % 4096 * 16 + x / 16 % 16) % 4096 * 16 + x % 16 ≡ x
+digits x h =
+    let e₁ : 0 % 4096 * 16 + x / 4096 % 16 ≡ x / 4096 = omega arith in
+    let e₂ : x / 4096 % 4096 * 16 + x / 256 % 16 ≡ x / 256 = omega arith in
+    let e₃ : x / 256 % 4096 * 16 + x / 16 % 16 ≡ x / 16 = omega arith in
+    let e₄ : x / 16 % 4096 * 16 + x % 16 ≡ x = omega arith in
+    rw (e₁, e₂, e₃, e₄)
+
+four : (l : Line) → l .operand < 65536 → digitsIn l (119 ∷ 120 ∷ 121 ∷ 122 ∷ []) 0 ≡ l .operand
+unfolding glyphOf fieldOf
+four l h =
+    rw (
+      value-digit (l .operand / 4096 % 16) (omega arith),
+      value-digit (l .operand / 256 % 16) (omega arith),
+      value-digit (l .operand / 16 % 16) (omega arith),
+      value-digit (l .operand % 16) (omega arith),
+    )
+    (digits (l .operand) h)
+
+shown : (l : Line) (b : Bool) → l .operand < 65536 → (b ≡ false → l .operand ≡ 0) → digitsIn l (cond b (119 ∷ 120 ∷ 121 ∷ 122 ∷ []) []) 0 ≡ l .operand
+shown l true h z = four l h
+shown l false h z = sym (z refl)
+
+-- a row shows s and d: they are read back where the operand is 0
+abbrev pub backs : ℕ → ℕ → ℕ → Bool
+backs r s d = eqb (readOf r (textOf (lineWith r s d 0)) .s) s && eqb (readOf r (textOf (lineWith r s d 0)) .d) d
+
+module _ (r s d x : ℕ) (h : r < 86) (back : T (backs r s d)) (word : x < 65536) (none : occurs 119 (templateOf r) ≡ false → x ≡ 0) where
+  back-s : readOf r (textOf (lineWith r s d x)) .s ≡ s
+  unfolding readOf textOf
+  back-s =
+      reads-s r s d x 0 (templateOf r) (lineWith r 0 0 0) (lineWith r 0 0 0) refl
+      ∙ eqb→eq (readOf r (textOf (lineWith r s d 0)) .s) s (both-left (eqb (readOf r (textOf (lineWith r s d 0)) .s) s) (eqb (readOf r (textOf (lineWith r s d 0)) .d) d) back)
+
+  back-d : readOf r (textOf (lineWith r s d x)) .d ≡ d
+  unfolding readOf textOf
+  back-d =
+      reads-d r s d x 0 (templateOf r) (lineWith r 0 0 0) (lineWith r 0 0 0) refl
+      ∙ eqb→eq (readOf r (textOf (lineWith r s d 0)) .d) d (both-right (eqb (readOf r (textOf (lineWith r s d 0)) .s) s) (eqb (readOf r (textOf (lineWith r s d 0)) .d) d) back)
+
+  back-x : readOf r (textOf (lineWith r s d x)) .operand ≡ x
+  unfolding readOf textOf
+  back-x =
+      reads-x (lineWith r s d x) (templateOf r) (lineWith r 0 0 0)
+      ∙ ap (λ (t : List ℕ). digitsIn (lineWith r s d x) t 0) (template-hexes r h)
+      ∙ shown (lineWith r s d x) (occurs 119 (templateOf r)) word none
+
+  pub read-back : readOf r (textOf (lineWith r s d x)) ≡ lineWith r s d x
+  read-back =
+      let er = read-row r (textOf (lineWith r s d x)) in
+      λ i. record { row = er i; s = back-s i; d = back-d i; operand = back-x i }

@@ -1,0 +1,91 @@
+-- (b) of `specs/Laws`: an assembled line lists as itself.
+use Prim.Native.Nat.{ℕ, _+_, _%_, _<_, _≤_}
+use mathlib.Core.Path.{_≡_, refl, sym, ap, _∙_, subst}
+use mathlib.Core.Bool.{Bool, true, false, cond}
+use mathlib.Core.List.{List, [], _∷_}
+use native.Mathlib.Omega.{arith}
+use lib.Dec.{eqb}
+use lib.ListN.{length, getD}
+use Rattle.word.specs.Word.{wrapAdd}
+use Rattle.memory.specs.Memory.{peekOf}
+use Rattle.decode.specs.Decode.{opcodeOf}
+use Rattle.listing.specs.declared.line.Line.{Line}
+use Rattle.listing.specs.declared.entry.Entry.{Entry}
+use Rattle.listing.specs.Rows.{codes, rows, templateOf}
+use Rattle.listing.specs.Line.{lineWith, glyphOf, textOf}
+use Rattle.listing.specs.Answer.{assembled}
+use Rattle.listing.specs.Disassemble.{entryAt, textAt}
+use Rattle.listing.specs.Assemble.{assembleOf}
+use Rattle.listing.specs.Laws.{Stand, AssembledListsAsItself}
+use Rattle.listing.proofs.Trip.{entryWith, cutWith, entry-with, cut-with, Agree, cut-length, agree-entry}
+use Rattle.listing.proofs.RoundTrip.{Found, found, cut-first}
+
+-- the line of row 85
+decle : textOf (lineWith 85 0 0 0) ≡ codes "DECLE $0004"
+unfolding textOf glyphOf templateOf rows
+decle = refl
+
+is-decle : (w a b : ℕ) (double : Bool) → eqb w 4 ≡ true → eqb (a % 4) 3 ≡ true → textOf (entryWith w a b double .line) ≡ codes "DECLE $0004"
+unfolding entryWith
+is-decle w a b double e f = rw (e, f) decle
+
+module _ (text : List ℕ) (double : Bool) (ws : List ℕ) (e : assembleOf text double ≡ assembled ws) (other : text ≡ codes "DECLE $0004" → ⊥) where
+  abbrev from : Found text double ws
+  from = found text double ws e
+
+  abbrev w : ℕ
+  w = opcodeOf (peekOf (from .memory) 0)
+
+  abbrev a : ℕ
+  a = peekOf (from .memory) (wrapAdd 0 1)
+
+  abbrev b : ℕ
+  b = peekOf (from .memory) (wrapAdd 0 2)
+
+  listed : entryAt (peekOf (from .memory)) 0 double ≡ entryWith w a b double
+  listed = entry-with (peekOf (from .memory)) 0 double
+
+  its-text : textOf (entryWith w a b double .line) ≡ text
+  its-text = ap (λ (x : Entry). textOf (x .line)) (sym listed) ∙ from .line
+
+  its-words : ws ≡ cutWith w a b double
+  its-words = from .cut ∙ cut-with (peekOf (from .memory)) 0 double
+
+  count : length ws ≡ entryWith w a b double .words
+  count = ap length its-words ∙ cut-length w a b double (omega arith) .1
+
+  module _ (read : ℕ → ℕ) (at : ℕ) (low : at < 65536) (stand : Stand read at ws) where
+    least : 1 ≤ length ws
+    least = let l = cut-length w a b double (omega arith) .0 in let n = count in omega arith
+
+    at-opcode : opcodeOf (read at) ≡ w
+    unfolding wrapAdd
+    at-opcode =
+        let m : (at + 0) % 65536 ≡ at = omega arith in
+        let l = least in
+        let s : read at ≡ getD ws 0 0 = rw m at (stand 0 (omega arith)) in
+        let f : getD ws 0 0 ≡ w = ap (λ (x : List ℕ). getD x 0 0) its-words ∙ cut-first w a b double (omega arith) in
+        let k : w % 1024 ≡ w = omega arith in
+        ap opcodeOf (s ∙ f) ∙ k
+
+    agree : Agree (entryWith w a b double .words) (read (wrapAdd at 1)) (read (wrapAdd at 2)) (cutWith w a b double)
+    agree =
+        let n = count in
+        record {
+          second = λ h. stand 1 (omega arith) ∙ ap (λ (x : List ℕ). getD x 1 0) its-words;
+          third = λ h. stand 2 (omega arith) ∙ ap (λ (x : List ℕ). getD x 2 0) its-words;
+        }
+
+    there : entryAt read at double ≡ entryWith w a b double
+    there =
+        entry-with read at double
+        ∙ ap (λ (x : ℕ). entryWith x (read (wrapAdd at 1)) (read (wrapAdd at 2)) double) at-opcode
+        ∙ agree-entry w a b double (omega arith) (read (wrapAdd at 1)) (read (wrapAdd at 2))
+        (λ p q. other (sym its-text ∙ is-decle w a b double p q)) agree
+
+    lists : (textAt read at double ≡ text) × (entryAt read at double .words ≡ length ws)
+    lists =
+        (ap (λ (x : Entry). textOf (x .line)) there ∙ its-text, ap (λ (x : Entry). x .words) there ∙ sym count)
+
+pub assembled-lists-as-itself : AssembledListsAsItself
+assembled-lists-as-itself text double ws e other read at low stand = lists text double ws e other read at low stand

@@ -1,0 +1,67 @@
+-- `read`: the loop's invariant is that what is left of template and text, read from the line so far, gives the line read from all.
+use borrow.Author.Needs.{needs}
+use Prim.Native.Nat.{ℕ, _+_, _-_, _≤_, _<_}
+use mathlib.Core.Path.{_≡_, refl, sym, ap, _∙_}
+use native.Mathlib.Omega.{arith}
+use lib.ListN.{length, getD, drop}
+use Rattle.listing.specs.Rows.{templateOf}
+use Rattle.listing.specs.Inner.{paddedOf}
+use Rattle.listing.specs.Assemble.{takenOf, readIn, readOf}
+use Rattle.listing.proofs.Table.{template-most, padded-at}
+use Rattle.listing.proofs.Reading.{read-step, read-out, read-end}
+use Rattle.listing.proofs.encode.read.Statement.{statement}
+use Rattle.listing.proofs.encode.read.Tie as tie
+
+abbrev Inv-loop : tie.InvT-loop
+Inv-loop text row template line₀ i₀ line i =
+    (i ≤ 14) × (readIn (drop i (templateOf row)) (drop i text) line ≡ readOf row text)
+
+abbrev μ-loop : tie.MeasureT-loop
+μ-loop text row template line₀ i₀ line i = 14 - i
+
+loop-holds : tie.Need-loop-holds Inv-loop μ-loop
+unfolding readOf
+loop-holds c = (search needs, rw (c .line-with .ensures))
+
+returns : tie.Need-returns Inv-loop μ-loop
+returns c =
+    let a = c .before .before .before .before .before .args in
+    let v = c .before .before .loop in
+    sym (read-out (templateOf (a .row)) (a .text .now) (v .line) (v .i) (c .if1 .taken)) ∙ v .inv .1
+
+loop-again : tie.Need-loop-again Inv-loop μ-loop
+loop-again c =
+    let a = c .before .before .before .before .before .before .before .before .args in
+    let p = c .before .before .before .before .before .before .before .before .pre in
+    let v = c .before .before .before .before .before .loop in
+    let symbol : getD (a .template .now) (v .i) 0 ≡ getD (templateOf (a .row)) (v .i) 46 =
+    rw (p .0) (padded-at (a .row) (v .i) (c .before .before .before .before .loop-test .taken)) in (
+      search needs,
+      rw (c .taken .ensures, symbol)
+          (sym (read-step (templateOf (a .row)) (a .text .now) (v .line) (v .i) (c .before .before .before .if1 .left)) ∙ v .inv .1),
+    )
+
+returns-2 : tie.Need-returns-2 Inv-loop μ-loop
+returns-2 c =
+    let a = c .before .before .before .before .args in
+    let p = c .before .before .before .before .pre in
+    let v = c .before .loop in
+    let most = template-most (a .row) (p .1) in
+    sym (read-end (templateOf (a .row)) (a .text .now) (v .line) (v .i) (omega arith)) ∙ v .inv .1
+
+pub read-spec : {M : Type 1} → statement M
+read-spec =
+    tie.close
+    (tie.spec
+    Inv-loop
+    μ-loop
+    (λ c κs. search needs)
+    loop-holds
+    returns
+    (λ c. search needs)
+    (λ c. search needs)
+    (λ c κs. search needs)
+    (λ c. search needs)
+    (λ c. search needs)
+    loop-again
+    returns-2)

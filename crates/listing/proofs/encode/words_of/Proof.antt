@@ -1,0 +1,28 @@
+use borrow.Author.Tests.{le-leb, lt-leb}
+use Rattle.listing.specs.Assemble.{wordsOf, jumpWords}
+use borrow.Author.Needs.{needs}
+use Rattle.listing.proofs.encode.words_of.Statement.{statement}
+use Rattle.listing.proofs.encode.words_of.Tie as tie
+
+returns : tie.Need-returns
+unfolding wordsOf jumpWords
+returns c = rw (c .jump-word .ensures .0, c .before .before .base-of .ensures .0, le-leb _ _ (c .before .if1 .taken))
+
+returns-2 : tie.Need-returns-2
+unfolding wordsOf
+returns-2 c = rw (c .plain-words .ensures, c .before .before .before .before .base-of .ensures .0, lt-leb _ _ (c .before .before .before .if1 .left))
+
+pub words-of-spec : {M : Type 1} → statement M
+words-of-spec =
+    tie.close
+    (tie.spec
+    (λ c κs. search needs)
+    (λ c κs. search needs)
+    (λ c. search needs)
+    (λ c. search needs)
+    returns
+    (λ c. search needs)
+    (λ c. search needs)
+    (λ c. search needs)
+    (λ c κs. search needs)
+    returns-2)

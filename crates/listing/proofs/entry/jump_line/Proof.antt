@@ -1,0 +1,28 @@
+use Rattle.listing.specs.Disassemble.{jumpLine}
+use borrow.Author.Needs.{needs}
+use Rattle.listing.proofs.entry.jump_line.Statement.{statement}
+use Rattle.listing.proofs.entry.jump_line.Tie as tie
+
+returns : tie.Need-returns
+unfolding jumpLine
+returns c = rw (c .line-with .ensures, c .before .if1 .taken)
+
+returns-2 : tie.Need-returns-2
+unfolding jumpLine
+returns-2 c = rw (c .line-with2 .ensures, c .before .if1 .left)
+
+pub jump-line-spec : {M : Type 1} → statement M
+jump-line-spec =
+    tie.close
+    (tie.spec
+    (λ c. search needs)
+    (λ c. search needs)
+    (λ c. search needs)
+    (λ c. search needs)
+    (λ c κs. search needs)
+    (λ c. search needs)
+    (λ c. search needs)
+    (λ c. search needs)
+    (λ c κs. search needs)
+    returns
+    returns-2)

@@ -1,0 +1,44 @@
+use borrow.Author.Needs.{needs}
+use Rattle.listing.proofs.entry.line_of.Statement.{statement}
+use Rattle.listing.proofs.entry.line_of.Tie as tie
+
+returns : tie.Need-returns
+returns c = rw (c .control-line .ensures, c .before .before .instr .given .1)
+
+returns-2 : tie.Need-returns-2
+returns-2 c = rw (c .single-line .ensures, c .before .before .instr2 .given .1)
+
+returns-3 : tie.Need-returns-3
+returns-3 c = rw (c .shift-line .ensures, c .before .before .instr3 .given .1)
+
+returns-4 : tie.Need-returns-4
+returns-4 c = rw (c .branch-line .ensures, c .before .before .instr4 .given .1)
+
+returns-5 : tie.Need-returns-5
+returns-5 c = rw (c .memory-line .ensures, c .before .before .instr5 .given .1)
+
+returns-6 : tie.Need-returns-6
+returns-6 c = rw (c .operate-line .ensures, c .before .before .instr6 .given .1)
+
+pub line-of-spec : {M : Type 1} → statement M
+line-of-spec =
+    tie.close
+    (tie.spec
+    (λ c. search needs)
+    (λ c κs. search needs)
+    (λ c. search needs)
+    (λ c κs. search needs)
+    (λ c. search needs)
+    (λ c κs. search needs)
+    (λ c. search needs)
+    (λ c κs. search needs)
+    (λ c. search needs)
+    (λ c κs. search needs)
+    (λ c. search needs)
+    (λ c κs. search needs)
+    returns
+    returns-2
+    returns-3
+    returns-4
+    returns-5
+    returns-6)

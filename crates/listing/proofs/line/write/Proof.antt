@@ -1,0 +1,85 @@
+use Rattle.listing.specs.Inner.{paddedOf}
+-- `write`: the loop's invariant is that the first i bytes of the room are the line's, and the others as they were.
+use borrow.Author.Needs.{needs}
+use Prim.Native.Nat.{ℕ, _+_, _-_, _≤_, _<_}
+use mathlib.Core.Path.{_≡_, refl, sym, ap, _∙_}
+use mathlib.Core.Bool.{true, false}
+use mathlib.Core.List.{List, _++_}
+use native.Mathlib.Omega.{arith}
+use lib.Dec.{eqb}
+use lib.ListN.{length, getD, drop, take, set}
+use Rattle.listing.specs.Rows.{templateOf}
+use Rattle.listing.specs.Line.{glyphOf, textOf}
+use Rattle.listing.specs.Inner.{paddedOf}
+use Rattle.listing.proofs.Table.{template-most, ends-at, goes-on, symbol-at}
+use Rattle.listing.proofs.Lines.{text-length, text-at, write-step, write-end}
+use Rattle.listing.proofs.line.write.Statement.{statement}
+use Rattle.listing.proofs.line.write.Tie as tie
+
+abbrev Inv-loop : tie.InvT-loop
+Inv-loop text₀ line template i₀ text i =
+    (i ≤ 14) × (i ≤ length (textOf line)) × (length text ≡ length text₀) × (text ≡ take i (textOf line) ++ drop i text₀)
+
+abbrev μ-loop : tie.MeasureT-loop
+μ-loop text₀ line template i₀ text i = 14 - i
+
+loop-holds : tie.Need-loop-holds Inv-loop μ-loop
+loop-holds c = (search needs, search needs, refl, refl)
+
+returns : tie.Need-returns Inv-loop μ-loop
+returns c =
+    let a = c .before .before .before .before .before .args in
+    let p = c .before .before .before .before .before .pre in
+    let v = c .before .before .before .loop in
+    let e : getD (paddedOf (a .line .row)) (v .i) 0 ≡ 46 = rw (p .0) at (c .if1 .taken) in
+    let past = ends-at (a .line .row) (v .i) (p .1) (c .before .before .loop-test .taken) e in
+    let long = text-length (a .line) in
+    (omega arith, v .inv .3 ∙ write-end (a .text .now) (textOf (a .line)) (v .i) (omega arith))
+
+slice-write-text : tie.Need-slice-write-text Inv-loop μ-loop
+slice-write-text c = search needs
+
+loop-again : tie.Need-loop-again Inv-loop μ-loop
+loop-again c =
+    let a = c .before .before .before .before .before .before .args in
+    let p = c .before .before .before .before .before .before .pre in
+    let v = c .before .before .before .before .loop in
+    let t = c .before .before .before .loop-test .taken in
+    let more = goes-on (a .line .row) (v .i) t (λ e. c .before .if1 .left (rw (p .0) e)) in
+    let long = text-length (a .line) in
+    let byte =
+    c .glyph .ensures
+    ∙ ap (glyphOf (a .line)) (rw (p .0) (symbol-at (a .line .row) (v .i) t more))
+    ∙ sym (text-at (a .line) (v .i) more) in (
+      search needs,
+      omega arith,
+      search needs,
+      rw (v .inv .3, byte) (write-step (a .text .now) (textOf (a .line)) (v .i) (omega arith) (omega arith)),
+    )
+
+returns-2 : tie.Need-returns-2 Inv-loop μ-loop
+returns-2 c =
+    let a = c .before .before .before .args in
+    let p = c .before .before .before .pre in
+    let v = c .before .loop in
+    let most = template-most (a .line .row) (p .1) in
+    let long = text-length (a .line) in
+    (omega arith, v .inv .3 ∙ write-end (a .text .now) (textOf (a .line)) (v .i) (omega arith))
+
+pub write-spec : {M : Type 1} → statement M
+write-spec =
+    tie.close
+    (tie.spec
+    Inv-loop
+    μ-loop
+    loop-holds
+    (λ c. search needs)
+    (λ c. search needs)
+    returns
+    (λ c κs. search needs)
+    slice-write-text
+    (λ c. search needs)
+    (λ c. search needs)
+    loop-again
+    (λ c. search needs)
+    returns-2)

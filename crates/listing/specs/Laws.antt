@@ -1,0 +1,96 @@
+-- What holds of listing and assembling together. Each law is stated here; `proofs/RoundTrip` proves (a), (c),
+-- (d) and (f), `proofs/Itself` (b), and `proofs/RowTable` (e).
+use Prim.Native.Nat.{ℕ, _<_, _≤_, _%_}
+use mathlib.Core.Path.{_≡_}
+use mathlib.Core.Bool.{Bool, true, false}
+use mathlib.Core.List.{List, [], _∷_}
+use lib.ListN.{length, getD}
+use Rattle.word.specs.Word.{wrapAdd}
+use Rattle.memory.specs.Memory.{peekOf, Words}
+use Rattle.decode.specs.declared.Instr.{Instr}
+use Rattle.decode.specs.declared.Instr.the-variants.{Operate}
+use Rattle.decode.specs.declared.Decoded.the-variants.{Unspecified, Known}
+use Rattle.decode.specs.Decode.{opcodeOf, instructionOf, decodeAt}
+use Rattle.decode.specs.Rows.{rowOf}
+use Rattle.listing.specs.Rows.{codes}
+use Rattle.listing.specs.Answer.{AssemblyReport, assembled}
+use Rattle.listing.specs.Disassemble.{entryAt, textAt}
+use Rattle.listing.specs.Assemble.{cutAt, assembleOf}
+
+-- (a) "Cut so, a listed instruction's words come back equal"
+abbrev pub ListedComesBack : Type 0
+ListedComesBack =
+    (m : List ℕ) (at : ℕ) (double : Bool) →
+    Words m →
+    assembleOf (textAt (peekOf m) at double) double ≡ assembled (cutAt (peekOf m) at double)
+
+-- the words ws stand at an address, whatever follows them
+abbrev pub Stand : (ℕ → ℕ) → ℕ → List ℕ → Type 0
+Stand read at ws = (i : ℕ) → i < length ws → read (wrapAdd at i) ≡ getD ws i 0
+
+-- (b) "an assembled line lists as itself, DECLE excepted": under the same D, and whatever words follow
+abbrev pub AssembledListsAsItself : Type 0
+AssembledListsAsItself =
+    (text : List ℕ) (double : Bool) (ws : List ℕ) →
+    assembleOf text double ≡ assembled ws →
+    (text ≡ codes "DECLE $0004" → ⊥) →
+    (read : ℕ → ℕ) (at : ℕ) →
+    at < 65536 →
+    Stand read at ws →
+    (textAt read at double ≡ text) × (entryAt read at double .words ≡ length ws)
+
+-- (c) "It accepts exactly the lister's lines": what is accepted is the line of some words, and every such line is accepted
+pub record AcceptsListedLines : Type 0 where
+  pub only :
+      (text : List ℕ) (double : Bool) (ws : List ℕ) →
+      assembleOf text double ≡ assembled ws →
+      (m : List ℕ) × (Words m × (textAt (peekOf m) 0 double ≡ text))
+  pub every :
+      (text : List ℕ) (double : Bool) (m : List ℕ) (at : ℕ) →
+      Words m →
+      textAt (peekOf m) at double ≡ text →
+      (ws : List ℕ) × (assembleOf text double ≡ assembled ws)
+
+-- (d) two instructions with the same line have the same words, cut
+abbrev pub SameLineSameWords : Type 0
+SameLineSameWords =
+    (m n : List ℕ) (at to : ℕ) (double : Bool) →
+    Words m →
+    Words n →
+    textAt (peekOf m) at double ≡ textAt (peekOf n) to double →
+    cutAt (peekOf m) at double ≡ cutAt (peekOf n) to double
+
+-- (e) words used and next D are those of the row table that the step uses; of "jump bits 3 .. one word, next D clear", and "stack
+-- reads under D list as without it"
+pub record FollowsRowTable (read : ℕ → ℕ) (at : ℕ) (double : Bool) : Type 0 where
+  pub known :
+      (i : Instr) →
+      decodeAt read at double ≡ Known i →
+      (entryAt read at double .words ≡ rowOf i double .words) × (entryAt read at double .double ≡ rowOf i double .double)
+  pub jump :
+      opcodeOf (read at) ≡ 0x004 →
+      read (wrapAdd at 1) % 4 ≡ 3 →
+      (entryAt read at double .words ≡ 1) × (entryAt read at double .double ≡ false)
+  pub stack :
+      (i : Instr) →
+      decodeAt read at double ≡ Unspecified →
+      decodeAt read at false ≡ Known i →
+      (entryAt read at double .words ≡ rowOf i false .words) × (entryAt read at double .double ≡ rowOf i false .double)
+
+abbrev pub EveryRowFollows : Type 0
+EveryRowFollows = (read : ℕ → ℕ) (at : ℕ) (double : Bool) → FollowsRowTable read at double
+
+-- (f) "gives opcode and jump words below 1024, and under D the two words of a read row's immediate below 256"
+pub record Cut (double : Bool) (ws : List ℕ) : Type 0 where
+  pub opcode : getD ws 0 0 < 1024
+  pub jump : getD ws 0 0 ≡ 0x004 → (i : ℕ) → getD ws i 0 < 1024
+  pub immediate :
+      (k d : ℕ) →
+      double ≡ true →
+      instructionOf (getD ws 0 0) ≡ Operate k 7 d →
+      8 ≤ k →
+      (length ws ≡ 3) × ((getD ws 1 0 < 256) × (getD ws 2 0 < 256))
+
+abbrev pub AssembledIsCut : Type 0
+AssembledIsCut =
+    (text : List ℕ) (double : Bool) (ws : List ℕ) → assembleOf text double ≡ assembled ws → Cut double ws
