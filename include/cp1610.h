@@ -29,7 +29,7 @@ enum cp1610_state {
     CP1610_STATE_WORDS = 18
 };
 
-/* The lines of a step. External branch input n is bit 16 + n. */
+/* The lines of a step or a run. External branch input n is bit 16 + n. */
 enum cp1610_lines { CP1610_INTRM_HIGH = 1, CP1610_BUSRQ_HIGH = 2 };
 
 /* The kinds of a success. */
@@ -40,8 +40,13 @@ enum cp1610_refusal {
     CP1610_MEMORY_TOO_LONG = 1,
     CP1610_IS_HALTED = 2,
     CP1610_UNSPECIFIED = 3,
+    CP1610_BUDGET_TOO_HIGH = 4,
     CP1610_SHORT_BUFFER = 255
 };
+
+/* What a run reports, and the causes that end one. */
+enum cp1610_report { CP1610_STEPS = 0, CP1610_CYCLES = 1, CP1610_CAUSE = 2, CP1610_RUN_WORDS = 3 };
+enum cp1610_cause { CP1610_BY_HALT = 0, CP1610_BY_UNSPECIFIED = 1, CP1610_BY_BUDGET = 2 };
 
 /* An answer is a refusal below 2^32; else the high half is the kind and the low half the value. */
 static inline int cp1610_is_refused(uint64_t answer) { return answer >> 32 == 0; }
@@ -54,6 +59,12 @@ uint64_t cp1610_reset(uint16_t *state, size_t state_length);
 /* One step. Kind 3 the bus was granted, 4 an interrupt was entered, 5 an instruction was executed; the value is the cycles.
  * Refused by 1 for a memory above 65,536 words, by 2 for a halted machine, by 3 for an unspecified form. */
 uint64_t cp1610_step(uint16_t *state, size_t state_length, uint16_t *mem, size_t mem_length, uint32_t lines);
+
+/* Steps with fixed lines, while their cycles are below the budget, the machine is not halted and the next step is not refused by
+ * 3. Kind 1; `out` gets the steps, the cycles and the cause of the end: halted, else unspecified, else the budget.
+ * Refused by 1 for a memory above 65,536 words, else by 4 for a budget above 1,000,000, else by 2 for a halted machine. */
+uint64_t cp1610_run(uint16_t *state, size_t state_length, uint16_t *mem, size_t mem_length, uint32_t lines, uint32_t budget,
+    uint32_t *out, size_t out_length);
 
 #ifdef __cplusplus
 }

@@ -1,4 +1,4 @@
--- The laws of `specs/Laws`.
+-- The laws of `specs/Laws` on words and on steps.
 use Prim.Native.Nat.{ℕ, _≤_, _<_, _/_, _%_}
 use mathlib.Core.Path.{_≡_, refl, ap, sym, _∙_}
 use mathlib.Core.Bool.{Bool, true, false, cond}
@@ -63,7 +63,7 @@ unfolding packed
 keeps-rest words st = record { rest = refl; size = λ h. omega (arith, length-drop stateLength words) }
 
 -- no refusal's number reaches the kinds
-number-low : (r : Refusal) → isRefusal (refusalNumber r) ≡ true
+pub number-low : (r : Refusal) → isRefusal (refusalNumber r) ≡ true
 number-low MemoryTooLong = refl
 number-low Halted = refl
 number-low Unspecified = refl
@@ -130,7 +130,7 @@ AltersNothing words m c = isRefusal (c .result) ≡ true → (c .state ≡ words
 
 pub refused-alters-nothing : RefusedAltersNothing
 unfolding stepCall
-refused-alters-nothing words m n = by-length (isShort words)
+refused-alters-nothing words m n = by-length (isShort stateLength words)
   where
     o : Outcome
     o = stepOf (unpacked words) m (linesOf n)

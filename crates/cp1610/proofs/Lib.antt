@@ -1,3 +1,4 @@
 -- Laws of the words that calls take and leave.
 pub mod WordLaws
 pub mod CallLaws
+pub mod RunCallLaws

@@ -1,13 +1,15 @@
--- Laws of a state's words: what a run of stores leaves.
+-- Laws of a buffer's words: what stores in a row leave.
 use Prim.Native.Nat.{ℕ, _≤_}
 use mathlib.Core.Path.{_≡_, refl}
 use mathlib.Core.Bool.{Bool, true, false}
-use mathlib.Core.List.{List, _++_}
+use mathlib.Core.List.{List, [], _∷_, _++_}
 use mir.Val.{boolByte}
 use lib.ListN.{length}
 use lib.Seq.{sets, sets-eq}
 use Rattle.cpu.specs.declared.State.{State}
+use Rattle.run.specs.declared.Cause.{Cause}
 use Rattle.cp1610.specs.Words.{stateLength, eight, flagWord, statusWords, packed}
+use Rattle.cp1610.specs.Answers.{runLength, causeNumber, runWords}
 
 -- a bool cast to a number is 1 or 0
 pub cast-flag : (b : Bool) → boolByte b ≡ flagWord b
@@ -18,3 +20,8 @@ cast-flag false = refl
 pub stored-words : (words : List ℕ) (st : State) → stateLength ≤ length words → sets words 0 (eight (st .registers) ++ statusWords (st .status)) ≡ packed words st
 unfolding packed
 stored-words words st h = sets-eq (eight (st .registers) ++ statusWords (st .status)) words 0 h
+
+-- and what a run reports
+pub stored-run : (out : List ℕ) (steps cycles : ℕ) (cause : Cause) → runLength ≤ length out → sets out 0 (steps ∷ cycles ∷ causeNumber cause ∷ []) ≡ runWords out steps cycles cause
+unfolding runWords
+stored-run out steps cycles cause h = sets-eq (steps ∷ cycles ∷ causeNumber cause ∷ []) out 0 h

@@ -1,8 +1,12 @@
 -- The C interface page, "Answers": every result as 64 bits.
 use Prim.Native.Nat.{ℕ, _+_, _*_}
 use mathlib.Core.Bool.{Bool}
+use mathlib.Core.List.{List, _∷_}
 use lib.Dec.{ltb}
+use lib.ListN.{drop}
 use Rattle.cpu.specs.Answer.{Reported, refused, answered}
+use Rattle.run.specs.declared.Cause.{Cause}
+use Rattle.run.specs.declared.Cause.the-variants.{Halted, Unspecified, Budget}
 
 -- "A value below 2^32 is a refusal"
 abbrev pub isRefusal : ℕ → Bool
@@ -20,3 +24,17 @@ successWord kind value = kind * 0x100000000 + value
 abbrev pub answerWord : Reported → ℕ
 answerWord (refused n) = n
 answerWord (answered kind cycles) = successWord kind cycles
+
+-- "out = steps, cycles, cause"
+abbrev pub runLength : ℕ
+runLength = 3
+
+-- "0 halted, 1 unspecified, 2 budget"
+abbrev pub causeNumber : Cause → ℕ
+causeNumber Halted = 0
+causeNumber Unspecified = 1
+causeNumber Budget = 2
+
+-- `out` after a run: "the items past what is named stay"
+unfoldable pub runWords : List ℕ → ℕ → ℕ → Cause → List ℕ
+runWords out steps cycles cause = steps ∷ cycles ∷ causeNumber cause ∷ drop runLength out

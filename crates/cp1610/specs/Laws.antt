@@ -1,16 +1,21 @@
--- What holds of every call: a caller in C reads from the calls what document 01 says of the steps. Proved in `proofs/CallLaws`.
+-- What holds of every call: a caller in C reads from the calls what document 01 says of the steps and of the run. Proved in
+-- `proofs/CallLaws` and `proofs/RunCallLaws`.
 use Prim.Native.Nat.{ℕ, _/_, _%_, _≤_}
 use mathlib.Core.Path.{_≡_}
 use mathlib.Core.Bool.{true, cond}
 use mathlib.Core.List.{List, [], _∷_, map}
-use lib.ListN.{length, drop}
+use lib.Dec.{eqb}
+use lib.ListN.{length, getD, drop}
 use Rattle.cpu.specs.declared.State.{State}
 use Rattle.cpu.specs.Answer.{Reported, refused, answered}
 use Rattle.cpu.specs.Step.{Outcome, stepOf}
 use Rattle.cpu.specs.Steps.{Moment, stepsFrom}
+use Rattle.run.specs.declared.Cause.{Cause}
+use Rattle.run.specs.declared.Cause.the-variants.{Halted, Unspecified, Budget}
+use Rattle.run.specs.Run.{RunReported, refused as runRefused, ended, RunOutcome, runOf}
 use Rattle.cp1610.specs.Words.{stateLength, unpacked, packed, linesOf}
-use Rattle.cp1610.specs.Answers.{isRefusal}
-use Rattle.cp1610.specs.Call.{Called, stepCall}
+use Rattle.cp1610.specs.Answers.{isRefusal, runLength}
+use Rattle.cp1610.specs.Call.{Called, RunCalled, stepCall, runCall}
 
 -- unpacking what was packed gives the state back; a state's array of registers has eight
 abbrev pub UnpacksPacked : Type 0
@@ -55,3 +60,32 @@ CallsAreSteps =
     (words m ns : List ℕ) →
     stateLength ≤ length words →
     map readCall (callsFrom words m ns) ≡ map (λ (x : Moment). x .left) (stepsFrom (unpacked words) m (map linesOf ns))
+
+-- a refused run alters nothing either, `out` included
+abbrev pub RefusedRunAltersNothing : Type 0
+RefusedRunAltersNothing =
+    (words m : List ℕ) (lines budget : ℕ) (out : List ℕ) →
+    let c : RunCalled = runCall words m lines budget out in
+    isRefusal (c .result) ≡ true →
+    (c .state ≡ words) × (c .memory ≡ m) × (c .out ≡ out)
+
+-- how a caller reads a cause: "0 halted, 1 unspecified, 2 budget"
+abbrev pub readCause : ℕ → Cause
+readCause n = cond (eqb n 0) Halted (cond (eqb n 1) Unspecified Budget)
+
+-- how a caller reads a run's report: "out = steps, cycles, cause"
+abbrev pub readReport : ℕ → List ℕ → RunReported
+readReport result out =
+    cond (isRefusal result) (runRefused result) (ended (getD out 0 0) (getD out 1 0) (readCause (getD out 2 0)))
+
+-- how a caller reads a call of a run
+abbrev pub readRun : RunCalled → RunOutcome
+readRun c = record { state = unpacked (c .state); answer = readReport (c .result) (c .out); memory = c .memory }
+
+-- a call is document 01's run: nothing of it is lost on the way
+abbrev pub CallIsRun : Type 0
+CallIsRun =
+    (words m : List ℕ) (lines budget : ℕ) (out : List ℕ) →
+    stateLength ≤ length words →
+    runLength ≤ length out →
+    readRun (runCall words m lines budget out) ≡ runOf (unpacked words) m (linesOf lines) budget

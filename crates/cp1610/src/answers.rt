@@ -1,11 +1,17 @@
 // Answers as 64 bits: a refusal is its number, and a success has its kind in the high half and its value in the low one.
 ghost use mathlib.Core.Path.{_≡_};
+ghost use Prim.Native.Nat.{_≤_};
+ghost use lib.ListN.{length};
 ghost use Rattle.cpu.specs.Answer.{reported};
-ghost use Rattle.cp1610.specs.Answers.{isRefusal, successWord, answerWord};
+ghost use Rattle.cp1610.specs.Answers.{isRefusal, successWord, answerWord, runLength, causeNumber, runWords};
 use cpu::StepAnswer;
+use run::Cause;
 
 // A buffer shorter than its table says.
 pub(crate) const SHORT_BUFFER: u64 = 255;
+
+// Steps, cycles and cause.
+pub(crate) const RUN_LENGTH: usize = 3;
 
 // A success, where a call has one kind only.
 pub(crate) const DONE: u16 = 1;
@@ -42,4 +48,24 @@ pub(crate) fn step_word(answer: StepAnswer) -> u64
         StepAnswer::Interrupted(cycles) => success(INTERRUPTED, cycles as u32),
         StepAnswer::Executed(cycles) => success(EXECUTED, cycles as u32),
     }
+}
+
+fn cause_number(cause: Cause) -> u32
+    ensures { λ r. ⌜ r ≡ causeNumber cause ⌝ }
+{
+    match cause {
+        Cause::Halted => 0,
+        Cause::Unspecified => 1,
+        Cause::Budget => 2,
+    }
+}
+
+// What a run reports, written over the first three items.
+pub(crate) fn put_run(out: &mut [u32], steps: u32, cycles: u32, cause: Cause)
+    requires { ⌜ runLength ≤ length (now out) ⌝ }
+    ensures { λ r. ⌜ now (out .exit) ≡ runWords (now (out .entry)) steps cycles cause ⌝ }
+{
+    out[0] = steps;
+    out[1] = cycles;
+    out[2] = cause_number(cause);
 }

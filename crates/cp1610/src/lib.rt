@@ -1,7 +1,8 @@
 // The C interface: the functions of libcp1610.a. Each takes the caller's words, calls the proved function and hands its answer
 // back as words. docs/C-INTERFACE.md is the page for callers.
 ghost use mathlib.Core.Path.{_≡_};
-ghost use Rattle.cp1610.specs.Call.{stateCalled, called, resetCall, stepCall};
+ghost use Rattle.cp1610.specs.Call.{stateCalled, called, runCalled, resetCall, stepCall, runCall};
+use run::RunAnswer;
 
 mod answers;
 mod words;
@@ -18,7 +19,8 @@ pub extern "C" fn cp1610_reset(state: &mut [u16]) -> u64
     answers::success(answers::DONE, 0)
 }
 
-// One step of the processor. The state's words are written only once it is known that the step was not refused.
+// One step of the processor. The state's words are written only once it is known that the step was not refused. The step is the
+// run's, so that the library holds the processor's step once.
 #[no_mangle]
 pub extern "C" fn cp1610_step(state: &mut [u16], mem: &mut [u16], lines: u32) -> u64
     ensures { λ r. ⌜ called r (now (state .exit)) (now (mem .exit)) ≡ stepCall (now (state .entry)) (now (mem .entry)) lines ⌝ }
@@ -26,7 +28,7 @@ pub extern "C" fn cp1610_step(state: &mut [u16], mem: &mut [u16], lines: u32) ->
     if state.len() < words::STATE_LENGTH {
         return answers::SHORT_BUFFER;
     }
-    let stepped = cpu::step(words::unpack(state), mem, words::lines_of(lines));
+    let stepped = run::one_step(words::unpack(state), mem, words::lines_of(lines));
     let answer = stepped.answer;
     let result = answers::step_word(answer);
     let refused = answers::is_refusal(result);
@@ -36,4 +38,34 @@ pub extern "C" fn cp1610_step(state: &mut [u16], mem: &mut [u16], lines: u32) ->
     let after = stepped.state;
     words::pack(state, after);
     result
+}
+
+// Steps within a budget of cycles. The state's words and `out` are written only once it is known that the run was not refused.
+#[no_mangle]
+pub extern "C" fn cp1610_run(
+    state: &mut [u16],
+    mem: &mut [u16],
+    lines: u32,
+    budget: u32,
+    out: &mut [u32],
+) -> u64
+    ensures { λ r. ⌜ runCalled r (now (state .exit)) (now (mem .exit)) (now (out .exit)) ≡ runCall (now (state .entry)) (now (mem .entry)) lines budget (now (out .entry)) ⌝ }
+{
+    if state.len() < words::STATE_LENGTH {
+        return answers::SHORT_BUFFER;
+    }
+    if out.len() < answers::RUN_LENGTH {
+        return answers::SHORT_BUFFER;
+    }
+    let ran = run::run(words::unpack(state), mem, words::lines_of(lines), budget);
+    let answer = ran.answer;
+    match answer {
+        RunAnswer::Refused(refusal) => refusal::number(refusal) as u64,
+        RunAnswer::Ended(steps, cycles, cause) => {
+            let after = ran.state;
+            words::pack(state, after);
+            answers::put_run(out, steps, cycles, cause);
+            answers::success(answers::DONE, 0)
+        }
+    }
 }

@@ -11,11 +11,11 @@ returns c = rw (lt-ltb _ _ (c .if1 .taken))
 
 returns-2 : tie.Need-returns-2
 unfolding stepCall
-returns-2 c = rw (le-ltb _ _ (c .before .before .before .before .before .before .before .before .before .before .if1 .left), ← c .before .before .before .before .before .before .before .before .unpack .ensures, ← c .before .before .before .before .before .before .lines-of .ensures, ← c .before .before .before .before .before .step .ensures, ← c .before .before .step-word .ensures, ← c .before .is-refusal .ensures, c .if2 .taken)
+returns-2 c = rw (le-ltb _ _ (c .before .before .before .before .before .before .before .before .before .before .if1 .left), ← c .before .before .before .before .before .before .before .before .unpack .ensures, ← c .before .before .before .before .before .before .lines-of .ensures, ← c .before .before .before .before .before .one-step .ensures, ← c .before .before .step-word .ensures, ← c .before .is-refusal .ensures, c .if2 .taken)
 
 returns-3 : tie.Need-returns-3
 unfolding stepCall
-returns-3 c = rw (c .before .before .pack .ensures, le-ltb _ _ (c .before .before .before .before .before .before .before .before .before .before .before .before .before .before .before .if1 .left), ← c .before .before .before .before .before .before .before .before .before .before .before .before .before .unpack .ensures, ← c .before .before .before .before .before .before .before .before .before .before .before .lines-of .ensures, ← c .before .before .before .before .before .before .before .before .before .before .step .ensures, ← c .before .before .before .before .before .before .before .step-word .ensures, ← c .before .before .before .before .before .before .is-refusal .ensures, c .before .before .before .before .before .if2 .left)
+returns-3 c = rw (c .before .before .pack .ensures, le-ltb _ _ (c .before .before .before .before .before .before .before .before .before .before .before .before .before .before .before .if1 .left), ← c .before .before .before .before .before .before .before .before .before .before .before .before .before .unpack .ensures, ← c .before .before .before .before .before .before .before .before .before .before .before .lines-of .ensures, ← c .before .before .before .before .before .before .before .before .before .before .one-step .ensures, ← c .before .before .before .before .before .before .before .step-word .ensures, ← c .before .before .before .before .before .before .is-refusal .ensures, c .before .before .before .before .before .if2 .left)
 
 pub cp1610-step-spec : {M : Type 1} → statement M
 cp1610-step-spec =

@@ -1,0 +1,58 @@
+/* What the drivers of the step and of the run share: the mixed loop and its measure, and random machines. */
+#ifndef DRIVE_H
+#define DRIVE_H
+
+#include <cp1610.h>
+
+#include "plain.h"
+
+enum { MEMORY = 65536, SPARE = 6, ROOM = CP1610_STATE_WORDS + SPARE };
+
+/* The proved machine's memory, the plain one's, and one to remember, each a word longer than a call takes. */
+extern uint16_t mem[MEMORY + 1], plain_mem[MEMORY + 1], before[MEMORY + 1];
+
+void to_plain(struct plain *p, const uint16_t *state);
+void from_plain(uint16_t *state, const struct plain *p);
+
+/* What is run over the mixed loop: the lines, the budget of cycles, the flags and marks to start from (bit n for state word
+ * 8 + n), and how many runs to take the best time of. */
+struct load {
+    uint32_t lines, budget;
+    unsigned flags;
+    int runs;
+};
+
+struct spent {
+    uint64_t steps, cycles;
+    uint16_t state[CP1610_STATE_WORDS];
+    uint32_t hash;
+    double ns; /* of the best run, a step */
+};
+
+/* Runs on `mem` from `state`, and sets the state, the steps and the cycles. */
+typedef void spends(const struct load *, struct spent *);
+
+/* Times both on the mixed loop, prints the figures, and says whether they agree. */
+bool measure_both(const struct load *l, const char *name, spends *proved, const char *plain_name, spends *plain);
+
+/* Random numbers, from a seed. */
+void seed_with(uint64_t seed);
+uint32_t any(void);
+uint32_t below(uint32_t n);
+bool one_in(uint32_t n);
+
+/* A random memory in `mem` and `plain_mem`, and its length; a state of ROOM words near it; lines. */
+size_t any_memory(void);
+void any_state(uint16_t *state, size_t length);
+uint32_t any_lines(void);
+
+void show(const char *name, const uint16_t *state, uint64_t answer);
+
+/* Prints what is wrong, if it does not hold. */
+bool is(const char *what, bool holds);
+
+/* The arguments: the load, and the numbers after it. */
+struct load load_of(char **argv, int argc);
+uint64_t number(char **argv, int argc, int n, const char *fallback);
+
+#endif
