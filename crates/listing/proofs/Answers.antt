@@ -1,7 +1,6 @@
 -- No two answers are reported alike.
 use Prim.Native.Nat.{ℕ}
-use mathlib.Core.Path.{_≡_, ap, sym}
-use mathlib.Core.List.{List, [], _∷_}
+use mathlib.Core.Path.{_≡_, ap}
 use native.Mathlib.Omega.{arith}
 use Rattle.refusal.specs.Refusals.{refusalNumber}
 use Rattle.refusal.proofs.Laws.{numbers-apart}
@@ -9,7 +8,7 @@ use Rattle.listing.specs.declared.Listing.{Listing}
 use Rattle.listing.specs.declared.Listing.the-variants.{Refused as ListingRefused, Listed}
 use Rattle.listing.specs.declared.Assembly.{Assembly}
 use Rattle.listing.specs.declared.Assembly.the-variants.{Refused as AssemblyRefused, One, Two, Three}
-use Rattle.listing.specs.Answer.{ListingReport, refused, listed, listingReported, AssemblyReport, rejected, assembled, assemblyReported, AnswersApart}
+use Rattle.listing.specs.Answer.{listingReported, assemblyReported, AnswersApart}
 
 -- two reports that differ
 unlike : {A : Type 0} → _≡_ {A = ℕ} 0 1 → A

@@ -1,18 +1,18 @@
 -- A line is read back from its text.
-use Prim.Native.Nat.{ℕ, zero, suc, _+_, _*_, _/_, _%_, _<_, _≤_}
+use Prim.Native.Nat.{ℕ, _+_, _*_, _/_, _%_, _<_}
 use mathlib.Core.Path.{_≡_, refl, sym, ap, _∙_}
 use mathlib.Core.Bool.{Bool, true, false, cond, _&&_}
 use mathlib.Core.List.{List, [], _∷_, map}
 use native.Mathlib.Omega.{arith}
-use lib.Dec.{T, eqb, leb, ltb, eqb→eq, lit<}
+use lib.Dec.{T, eqb, ltb, eqb→eq, lit<}
 use borrow.Author.Tests.{eqb-true, ne-eqb}
 use Rattle.word.proofs.Choice.{cond-both}
 use Rattle.listing.specs.Rows.{templateOf}
 use Rattle.listing.specs.declared.line.Line.{Line}
-use Rattle.listing.specs.Line.{lineWith, digitOf, signOf, fieldOf, glyphOf, textOf}
+use Rattle.listing.specs.Line.{lineWith, digitOf, fieldOf, glyphOf, textOf}
 use Rattle.listing.specs.Assemble.{valueOf, signValue, takenOf, readIn, readOf}
-use Rattle.listing.proofs.Tests.{below, below-at, both-left, both-right}
-use Rattle.listing.proofs.Table.{isHex, hexes, hexOf, occurs, template-hexes}
+use Rattle.listing.proofs.Tests.{below-at, both-left, both-right}
+use Rattle.listing.proofs.Table.{hexes, occurs, template-hexes}
 
 abbrev digit-back : ℕ → Bool
 digit-back v = eqb (valueOf (digitOf v)) v

@@ -1,8 +1,6 @@
 -- The entry at an address: its row is in the table, and it is that of three words.
-use Prim.Native.Nat.{ℕ, zero, suc, _+_, _*_, _/_, _%_, _<_, _≤_}
-use mathlib.Core.Path.{_≡_, refl, sym, ap, _∙_}
-use mathlib.Core.Bool.{Bool, true, false, cond, _&&_}
-use mathlib.Core.List.{List, [], _∷_}
+use Prim.Native.Nat.{ℕ, _/_, _%_, _<_}
+use mathlib.Core.Bool.{Bool, false, _&&_}
 use native.Mathlib.Omega.{arith}
 use lib.Dec.{eqb, leb, ltb, lit<}
 use borrow.Author.Tests.{ltb-true}
@@ -12,11 +10,9 @@ use Rattle.decode.specs.declared.Instr.{Instr}
 use Rattle.decode.specs.declared.Instr.the-variants.{Control, Single, Shift, Branch, Store, Operate}
 use Rattle.decode.specs.declared.Decoded.{Decoded}
 use Rattle.decode.specs.declared.Decoded.the-variants.{Unspecified, Known}
-use Rattle.decode.specs.Decode.{opcodeOf, instructionOf, lowInstruction, unspecifiedOf, decodeAt}
+use Rattle.decode.specs.Decode.{decodeAt}
 use Rattle.decode.specs.Rows.{rowOf}
 use Rattle.listing.specs.declared.line.Line.{Line}
-use Rattle.listing.specs.declared.entry.Entry.{Entry}
-use Rattle.listing.specs.Line.{lineWith}
 use Rattle.listing.specs.Disassemble.{jumpLine, controlLine, singleLine, shiftLine, branchLine, memoryLine, operateLine, lineOf, operandOf, entryFor, entryOf, entryAt}
 use Rattle.listing.proofs.Tests.{cond-cases}
 

@@ -1,15 +1,14 @@
 -- (b) of `specs/Laws`: an assembled line lists as itself.
 use Prim.Native.Nat.{ℕ, _+_, _%_, _<_, _≤_}
-use mathlib.Core.Path.{_≡_, refl, sym, ap, _∙_, subst}
-use mathlib.Core.Bool.{Bool, true, false, cond}
-use mathlib.Core.List.{List, [], _∷_}
+use mathlib.Core.Path.{_≡_, refl, sym, ap, _∙_}
+use mathlib.Core.Bool.{Bool, true}
+use mathlib.Core.List.{List}
 use native.Mathlib.Omega.{arith}
 use lib.Dec.{eqb}
 use lib.ListN.{length, getD}
 use Rattle.word.specs.Word.{wrapAdd}
 use Rattle.memory.specs.Memory.{peekOf}
 use Rattle.decode.specs.Decode.{opcodeOf}
-use Rattle.listing.specs.declared.line.Line.{Line}
 use Rattle.listing.specs.declared.entry.Entry.{Entry}
 use Rattle.listing.specs.Rows.{codes, rows, templateOf}
 use Rattle.listing.specs.Line.{lineWith, glyphOf, textOf}

@@ -1,18 +1,18 @@
 -- The key of a line leads to its row.
-use Prim.Native.Nat.{ℕ, zero, suc, _+_, _*_, _%_, _<_, _≤_}
+use Prim.Native.Nat.{ℕ, suc, _+_, _*_, _%_, _<_}
 use mathlib.Core.Path.{_≡_, refl, sym, ap, _∙_}
 use mathlib.Core.Bool.{Bool, true, false, cond, _&&_, _||_}
-use mathlib.Core.List.{List, [], _∷_, map}
+use mathlib.Core.List.{List, [], _∷_}
 use native.Mathlib.Omega.{arith}
-use lib.Dec.{T, eqb, leb, ltb, eqb→eq, leb→le}
+use lib.Dec.{T, eqb, ltb, eqb→eq, leb→le}
 use lib.ListN.{length, getD}
-use borrow.Author.Tests.{eqb-true, ltb-true, ltb-false, lt-ltb, le-ltb}
+use borrow.Author.Tests.{eqb-true, ltb-true, ltb-false}
 use Rattle.word.proofs.Choice.{cond-both}
 use Rattle.listing.specs.Rows.{rows, templateOf}
 use Rattle.listing.specs.declared.line.Line.{Line}
 use Rattle.listing.specs.Line.{signOf, glyphOf, textOf}
 use Rattle.listing.specs.Inner.{keyOf, Guesses}
-use Rattle.listing.proofs.Tests.{truth, below, below-at, both-left, both-right, clash}
+use Rattle.listing.proofs.Tests.{below, below-at, both-left, both-right}
 use Rattle.listing.proofs.Table.{template-least}
 use Rattle.listing.proofs.Lines.{text-length, text-at}
 

@@ -1,33 +1,31 @@
 -- The laws that join listing and assembling: (a), (c), (d) and (f) of `specs/Laws`.
 use Prim.Native.Nat.{ℕ, zero, suc, _%_, _<_, _≤_}
 use mathlib.Core.Path.{_≡_, refl, sym, ap, _∙_, subst}
-use mathlib.Core.Bool.{Bool, true, false, cond}
+use mathlib.Core.Bool.{Bool, true, false}
 use mathlib.Core.List.{List, [], _∷_}
 use native.Mathlib.Omega.{arith}
 use lib.Dec.{eqb, lit<}
-use lib.ListN.{length, getD}
-use borrow.Author.Tests.{eqb-true, eq-eqb, lt-ltb, le-ltb}
+use lib.ListN.{getD}
+use borrow.Author.Tests.{eqb-true, eq-eqb, le-ltb}
 use Rattle.refusal.specs.declared.Refusal.the-variants.{NotAListingLine}
 use Rattle.refusal.specs.Refusals.{refusalNumber}
 use Rattle.word.specs.Word.{wrapAdd}
 use Rattle.word.proofs.Choice.{cond-both}
 use Rattle.memory.specs.Memory.{peekOf, Words}
-use Rattle.decode.specs.declared.Instr.{Instr}
 use Rattle.decode.specs.declared.Instr.the-variants.{Control, Operate}
 use Rattle.decode.specs.Decode.{opcodeOf, instructionOf, lowInstruction}
-use Rattle.decode.specs.Rows.{heardRow, readWords, operateRow, rowOf}
-use Rattle.listing.specs.declared.line.Line.{Line}
+use Rattle.decode.specs.Rows.{heardRow, readWords, operateRow}
 use Rattle.listing.specs.declared.entry.Entry.{Entry}
 use Rattle.listing.specs.Line.{textOf, sameText}
 use Rattle.listing.specs.Inner.{keyOf}
-use Rattle.listing.specs.Answer.{AssemblyReport, rejected, assembled}
+use Rattle.listing.specs.Answer.{rejected, assembled}
 use Rattle.listing.specs.Disassemble.{entryFor, entryAt, textAt}
 use Rattle.listing.specs.Assemble.{readOf, wordsOf, firstWords, cutOf, cutAt, memoryAs, assembleOf}
-use Rattle.listing.specs.Laws.{ListedComesBack, AcceptsListedLines, SameLineSameWords, Cut, AssembledIsCut}
-use Rattle.listing.proofs.Tests.{clash, same-true, same-eq, cond-cases}
+use Rattle.listing.specs.Laws.{ListedComesBack, AcceptsListedLines, SameLineSameWords, AssembledIsCut}
+use Rattle.listing.proofs.Tests.{same-true, same-eq}
 use Rattle.listing.proofs.Entries.{entry-in}
 use Rattle.listing.proofs.Keys.{rowOfKey, guesses, own-row, guess-in}
-use Rattle.listing.proofs.Trip.{entryWith, cutWith, entry-with, cut-with}
+use Rattle.listing.proofs.Trip.{entryWith, cutWith, cut-with}
 use Rattle.listing.proofs.Accept.{self-entry, self-cut, read-words, refused, assembled-by}
 
 comes-back : (read : ℕ → ℕ) (at : ℕ) (double : Bool) → read (wrapAdd at 1) < 65536 → assembleOf (textAt read at double) double ≡ assembled (cutAt read at double)

@@ -7,13 +7,12 @@ use lib.Dec.{T, eqb, leb, eqb→eq}
 use borrow.Author.Tests.{eq-eqb}
 use Rattle.word.specs.Word.{wrapAdd}
 use Rattle.decode.specs.declared.Instr.{Instr}
-use Rattle.decode.specs.declared.Decoded.{Decoded}
 use Rattle.decode.specs.declared.Decoded.the-variants.{Unspecified, Known}
 use Rattle.decode.specs.Decode.{opcodeOf, fieldS, lowInstruction, instructionOf, unspecifiedOf, decodeAt}
 use Rattle.decode.specs.Rows.{heardRow, unheardRow, controlRow, shiftRow, branchRow, memoryWords, storeRow, readWords, operateRow, rowOf}
 use Rattle.listing.specs.declared.entry.Entry.{Entry}
-use Rattle.listing.specs.Disassemble.{entryFor, entryOf, entryAt}
-use Rattle.listing.specs.Laws.{FollowsRowTable, EveryRowFollows}
+use Rattle.listing.specs.Disassemble.{entryFor, entryAt}
+use Rattle.listing.specs.Laws.{EveryRowFollows}
 use Rattle.listing.proofs.Tests.{below, below-at, both-left, both-right, imp, imp-at}
 
 known-one : {A : Type 0} {i : Instr} → Unspecified ≡ Known i → A

@@ -8,7 +8,7 @@ use native.Mathlib.Decide.{decLt}
 use native.Mathlib.Omega.{arith}
 use lib.Dec.{T, eqb, leb, ltb, eqb→eq, leb→le}
 use lib.ListN.{length, getD, List·getD-eq-default}
-use borrow.Author.Tests.{eqb-true, eq-eqb}
+use borrow.Author.Tests.{eq-eqb}
 use Rattle.memory.proofs.Laws.{getD-within}
 use Rattle.listing.specs.Rows.{Row, rows, templateOf, baseOf}
 use Rattle.listing.specs.Line.{sameText}

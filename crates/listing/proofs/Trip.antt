@@ -1,27 +1,25 @@
 -- The words of an entry's line give the entry again, and are the entry's words, cut.
-use Prim.Native.Nat.{ℕ, zero, suc, _+_, _-_, _*_, _/_, _%_, _<_, _≤_}
-use mathlib.Core.Path.{_≡_, refl, sym, ap, _∙_}
+use Prim.Native.Nat.{ℕ, suc, _+_, _-_, _*_, _/_, _%_, _<_, _≤_}
+use mathlib.Core.Path.{_≡_, refl, ap, _∙_}
 use mathlib.Core.Bool.{Bool, true, false, cond, not, _&&_, _||_}
 use mathlib.Core.List.{List, [], _∷_}
 use native.Mathlib.Omega.{arith}
 use lib.Dec.{T, eqb, leb, ltb, eqb→eq, leb→le, lit<, lit≤}
 use lib.ListN.{length, getD}
-use borrow.Author.Tests.{eqb-true, eqb-false, eq-eqb, ne-eqb, lt-ltb, le-ltb, le-leb, lt-leb}
+use borrow.Author.Tests.{eqb-true, eqb-false, lt-ltb, le-ltb, le-leb, lt-leb}
 use Rattle.word.specs.Word.{wrapAdd}
-use Rattle.word.proofs.Choice.{cond-true, cond-false, cond-both}
+use Rattle.word.proofs.Choice.{cond-both}
 use Rattle.memory.specs.Memory.{peekOf}
 use Rattle.decode.specs.declared.Instr.{Instr}
 use Rattle.decode.specs.declared.Instr.the-variants.{Control, Single, Shift, Branch, Store, Operate}
-use Rattle.decode.specs.declared.Decoded.{Decoded}
-use Rattle.decode.specs.declared.Decoded.the-variants.{Unspecified, Known}
 use Rattle.decode.specs.Decode.{opcodeOf, instructionOf, lowInstruction, unspecifiedOf, decodeAt}
 use Rattle.decode.specs.Rows.{heardRow, unheardRow, controlRow, shiftRow, branchRow, memoryWords, storeRow, readWords, operateRow, rowOf}
 use Rattle.listing.specs.Rows.{rows, templateOf, baseOf}
 use Rattle.listing.specs.declared.line.Line.{Line}
 use Rattle.listing.specs.declared.entry.Entry.{Entry}
 use Rattle.listing.specs.Line.{lineWith, digitOf, signOf, fieldOf, glyphOf, textOf}
-use Rattle.listing.specs.Disassemble.{jumpLine, controlLine, singleLine, shiftLine, branchLine, memoryLine, operateLine, lineOf, operandOf, entryFor, entryOf, entryAt}
-use Rattle.listing.specs.Assemble.{valueOf, takenOf, readOf, wordCount, countOf, jumpWord, jumpWords, plainWords, wordsOf, firstWords, cutOf, cutAt}
+use Rattle.listing.specs.Disassemble.{jumpLine, controlLine, singleLine, shiftLine, branchLine, memoryLine, operateLine, lineOf, operandOf, entryFor, entryAt}
+use Rattle.listing.specs.Assemble.{valueOf, takenOf, readOf, wordCount, jumpWord, jumpWords, plainWords, wordsOf, firstWords, cutOf, cutAt}
 use Rattle.listing.proofs.Tests.{truth, below, below-at, both-left, both-right, imp, imp-at, clash, cond-cases}
 use Rattle.listing.proofs.Table.{occurs}
 use Rattle.listing.proofs.Back.{backs, read-back}

@@ -15,7 +15,7 @@ use Rattle.decode.specs.Decode.{decodeAt, opcodeOf}
 use Rattle.decode.specs.Rows.{rowOf}
 use Rattle.listing.specs.declared.line.Line.{Line}
 use Rattle.listing.specs.Rows.{templateOf, baseOf}
-use Rattle.listing.specs.Line.{lineWith, textOf, sameText}
+use Rattle.listing.specs.Line.{lineWith, sameText}
 use Rattle.listing.specs.Answer.{AssemblyReport, rejected, assembled}
 use Rattle.listing.specs.Disassemble.{entryAt, textAt}
 

@@ -3,7 +3,7 @@
 use Prim.Native.Nat.{ℕ, _<_, _≤_, _%_}
 use mathlib.Core.Path.{_≡_}
 use mathlib.Core.Bool.{Bool, true, false}
-use mathlib.Core.List.{List, [], _∷_}
+use mathlib.Core.List.{List}
 use lib.ListN.{length, getD}
 use Rattle.word.specs.Word.{wrapAdd}
 use Rattle.memory.specs.Memory.{peekOf, Words}
@@ -13,7 +13,7 @@ use Rattle.decode.specs.declared.Decoded.the-variants.{Unspecified, Known}
 use Rattle.decode.specs.Decode.{opcodeOf, instructionOf, decodeAt}
 use Rattle.decode.specs.Rows.{rowOf}
 use Rattle.listing.specs.Rows.{codes}
-use Rattle.listing.specs.Answer.{AssemblyReport, assembled}
+use Rattle.listing.specs.Answer.{assembled}
 use Rattle.listing.specs.Disassemble.{entryAt, textAt}
 use Rattle.listing.specs.Assemble.{cutAt, assembleOf}
 

@@ -2,7 +2,7 @@
 ghost use mathlib.Core.Path.{_≡_};
 ghost use Prim.Native.Nat.{_<_, _≤_};
 ghost use Rattle.listing.specs.Inner.{paddedOf};
-ghost use Rattle.listing.specs.Assemble.{valueOf, signValue, takenOf, readOf, wordCount, jumpWord, jumpWords, plainWords, wordsOf};
+ghost use Rattle.listing.specs.Assemble.{valueOf, signValue, takenOf, readOf, wordCount, jumpWord, plainWords, wordsOf};
 use crate::line::Line;
 use crate::line::line_with;
 use crate::rows::WIDTH;

@@ -1,8 +1,7 @@
 -- `assemble` reads the text as a line of the row that it is guessed to be of: by `Accept` no other row accepts it.
-use mathlib.Core.Path.{refl, sym, ap, _∙_}
+use mathlib.Core.Path.{sym, _∙_}
 use borrow.Author.Needs.{needs}
 use Rattle.memory.specs.Memory.{peekOf}
-use Rattle.listing.specs.Line.{sameText}
 use Rattle.listing.proofs.Entries.{entry-in}
 use Rattle.listing.proofs.Back.{read-row}
 use Rattle.listing.proofs.Accept.{accepted, refused}

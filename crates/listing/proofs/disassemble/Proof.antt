@@ -1,5 +1,4 @@
 -- `disassemble` tests document 01's refusals in their order, and writes the entry's line.
-use mathlib.Core.Path.{refl, sym, ap, _∙_}
 use borrow.Author.Needs.{needs}
 use borrow.Author.Tests.{lt-ltb, le-ltb}
 use Rattle.memory.specs.Memory.{peekOf}

@@ -1,12 +1,11 @@
 -- `read`: the loop's invariant is that what is left of template and text, read from the line so far, gives the line read from all.
 use borrow.Author.Needs.{needs}
-use Prim.Native.Nat.{ℕ, _+_, _-_, _≤_, _<_}
-use mathlib.Core.Path.{_≡_, refl, sym, ap, _∙_}
+use Prim.Native.Nat.{_-_, _≤_}
+use mathlib.Core.Path.{_≡_, sym, _∙_}
 use native.Mathlib.Omega.{arith}
-use lib.ListN.{length, getD, drop}
+use lib.ListN.{getD, drop}
 use Rattle.listing.specs.Rows.{templateOf}
-use Rattle.listing.specs.Inner.{paddedOf}
-use Rattle.listing.specs.Assemble.{takenOf, readIn, readOf}
+use Rattle.listing.specs.Assemble.{readIn, readOf}
 use Rattle.listing.proofs.Table.{template-most, padded-at}
 use Rattle.listing.proofs.Reading.{read-step, read-out, read-end}
 use Rattle.listing.proofs.encode.read.Statement.{statement}

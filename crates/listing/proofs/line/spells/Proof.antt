@@ -1,15 +1,11 @@
 use Rattle.listing.specs.Inner.{paddedOf}
 -- `spells`: the loop's invariant is that the rests from i on are the same text exactly if the line and the text are.
 use borrow.Author.Needs.{needs}
-use Prim.Native.Nat.{ℕ, _+_, _-_, _≤_, _<_}
+use Prim.Native.Nat.{_-_, _≤_}
 use mathlib.Core.Path.{_≡_, refl, sym, ap, _∙_}
-use mathlib.Core.Bool.{true, false}
-use mathlib.Core.List.{List, _++_}
 use native.Mathlib.Omega.{arith}
-use lib.Dec.{eqb}
-use lib.ListN.{length, getD, drop, take, set}
+use lib.ListN.{length, getD, drop}
 use borrow.Author.Tests.{ne-eqb, eq-eqb}
-use Rattle.listing.specs.Rows.{templateOf}
 use Rattle.listing.specs.Line.{glyphOf, textOf, sameText}
 use Rattle.listing.specs.Inner.{paddedOf}
 use Rattle.listing.proofs.Table.{template-most, ends-at, goes-on, symbol-at}

@@ -1,14 +1,11 @@
 use Rattle.listing.specs.Inner.{paddedOf}
 -- `write`: the loop's invariant is that the first i bytes of the room are the line's, and the others as they were.
 use borrow.Author.Needs.{needs}
-use Prim.Native.Nat.{ℕ, _+_, _-_, _≤_, _<_}
+use Prim.Native.Nat.{_+_, _-_, _≤_}
 use mathlib.Core.Path.{_≡_, refl, sym, ap, _∙_}
-use mathlib.Core.Bool.{true, false}
-use mathlib.Core.List.{List, _++_}
+use mathlib.Core.List.{_++_}
 use native.Mathlib.Omega.{arith}
-use lib.Dec.{eqb}
-use lib.ListN.{length, getD, drop, take, set}
-use Rattle.listing.specs.Rows.{templateOf}
+use lib.ListN.{length, getD, drop, take}
 use Rattle.listing.specs.Line.{glyphOf, textOf}
 use Rattle.listing.specs.Inner.{paddedOf}
 use Rattle.listing.proofs.Table.{template-most, ends-at, goes-on, symbol-at}

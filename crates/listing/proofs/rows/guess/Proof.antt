@@ -1,10 +1,10 @@
 -- `guess`: the table's rows are below 86, and the key of a line leads to its row.
-use mathlib.Core.Path.{sym, ap, _∙_, subst}
+use mathlib.Core.Path.{sym, subst}
 use Prim.Native.Nat.{ℕ}
 use native.Mathlib.Omega.{arith}
 use borrow.Author.Needs.{needs}
 use lib.ListN.{getD}
-use Rattle.listing.specs.Inner.{keyOf, Guesses}
+use Rattle.listing.specs.Inner.{Guesses}
 use Rattle.listing.proofs.Keys.{rowOfKey, row-of-key, guesses}
 use Rattle.listing.proofs.rows.guess.Statement.{statement}
 use Rattle.listing.proofs.rows.guess.Tie as tie
