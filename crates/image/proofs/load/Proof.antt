@@ -1,3 +1,4 @@
+-- The loader goes document 01's way: each return is one of its tests.
 use mathlib.Core.Path.{sym, _∙_}
 use Rattle.image.proofs.ReadLaws.{head-long}
 use Rattle.image.proofs.LoadLaws.{load-long, load-head, load-here, load-other}

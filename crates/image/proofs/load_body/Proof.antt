@@ -1,3 +1,4 @@
+-- What the first pass answers decides; the second is made only where the sum agrees.
 use mathlib.Core.Path.{sym, _∙_}
 use lib.ListN.{length}
 use Rattle.image.specs.Read.{bodyOf}

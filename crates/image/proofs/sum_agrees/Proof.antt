@@ -1,3 +1,4 @@
+-- The sum test, as the code makes it.
 use borrow.Author.Needs.{needs}
 use Rattle.image.proofs.sum_agrees.Statement.{statement}
 use Rattle.image.proofs.sum_agrees.Tie as tie

@@ -1,3 +1,4 @@
+-- The writer's refusals in their order: each return is one of its tests.
 use mathlib.Core.Path.{sym, _∙_}
 use Rattle.image.proofs.EmitLaws.{write-long, write-above, write-past, write-here}
 use borrow.Author.Needs.{needs}

@@ -1,3 +1,4 @@
+-- The first pass, by the record `Checking`: each turn is a law of PassLaws.
 use Prim.Native.Nat.{_-_}
 use native.Mathlib.Omega.{arith}
 use borrow.Author.Needs.{needs}

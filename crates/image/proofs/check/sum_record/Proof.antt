@@ -1,3 +1,4 @@
+-- The sum of a record, from the sum of its words.
 use Rattle.image.specs.Bytes.{wordsOf}
 use Rattle.image.proofs.PassLaws.{record-sums}
 use lib.ListN.{drop}

@@ -1,3 +1,4 @@
+-- The sum of a record's words, by the record `Summing`.
 use Prim.Native.Nat.{_-_}
 use native.Mathlib.Omega.{arith}
 use mathlib.Core.Path.{sym, _∙_}

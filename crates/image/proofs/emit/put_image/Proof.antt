@@ -1,3 +1,4 @@
+-- The head, the records and the tail are the file, and it fits the room.
 use Rattle.image.proofs.EmitLaws.{room-short, room-written}
 use borrow.Author.Needs.{needs}
 use Rattle.image.proofs.emit.put_image.Statement.{statement}

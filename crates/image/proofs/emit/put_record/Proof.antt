@@ -1,3 +1,4 @@
+-- Mark, address, count and words stand one behind the other.
 use Rattle.image.proofs.EmitLaws.{record-put}
 use lib.ListN.{length}
 use Rattle.image.specs.Format.{atMark}

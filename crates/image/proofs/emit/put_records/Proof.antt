@@ -1,3 +1,4 @@
+-- The writer's loop over records, by the record `Emitting`.
 use Rattle.image.proofs.EmitLaws.{emitting-words}
 use Prim.Native.Nat.{_-_}
 use native.Mathlib.Omega.{arith}

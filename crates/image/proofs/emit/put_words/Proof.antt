@@ -1,3 +1,4 @@
+-- Words as bytes, by the record `Putting`.
 use Prim.Native.Nat.{_-_}
 use native.Mathlib.Omega.{arith}
 use borrow.Author.Needs.{needs}

@@ -1,3 +1,4 @@
+-- The sum of a record, from the sum of its words.
 use mathlib.Core.Path.{refl}
 use lib.ListN.{length}
 use Rattle.image.proofs.PassLaws.{record-sums}

@@ -1,3 +1,4 @@
+-- The sum of words, by the record `Summing`.
 use Prim.Native.Nat.{_-_}
 use mathlib.Core.Path.{refl}
 use borrow.Author.Needs.{needs}

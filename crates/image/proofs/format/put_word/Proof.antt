@@ -1,3 +1,4 @@
+-- Two stores are the word's two bytes.
 use native.Mathlib.Numerals.{add-one}
 use Prim.Native.Nat.{_/_}
 use native.Mathlib.Omega.{arith}

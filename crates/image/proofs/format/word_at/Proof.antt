@@ -1,3 +1,4 @@
+-- A word is its two bytes.
 use Rattle.image.specs.Bytes.{wordAt}
 use borrow.Author.Needs.{needs}
 use Rattle.image.proofs.format.word_at.Statement.{statement}

@@ -1,3 +1,4 @@
+-- Each return rewrites the definition by the tests on its way.
 use Rattle.image.specs.Read.{placeOf}
 use borrow.Author.Tests.{eq-eqb, ne-eqb, lt-ltb, le-ltb}
 use Rattle.image.specs.Read.{recordOf}

@@ -1,3 +1,4 @@
+-- Each return rewrites the definition by the tests on its way.
 use borrow.Author.Tests.{eq-eqb, ne-eqb}
 use Rattle.image.specs.Read.{tailOf}
 use borrow.Author.Needs.{needs}

@@ -1,3 +1,4 @@
+-- The words of a record are stored one after the other, by the record `Laying`.
 use Prim.Native.Nat.{_-_}
 use native.Mathlib.Omega.{arith}
 use mathlib.Core.Path.{sym, _∙_}

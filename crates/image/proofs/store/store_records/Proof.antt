@@ -1,3 +1,4 @@
+-- The second pass, by the record `Storing`: what is left is known to be whole.
 use Prim.Native.Nat.{_-_}
 use native.Mathlib.Omega.{arith}
 use borrow.Author.Needs.{needs}
