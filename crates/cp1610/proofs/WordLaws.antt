@@ -4,12 +4,14 @@ use mathlib.Core.Path.{_≡_, refl}
 use mathlib.Core.Bool.{Bool, true, false}
 use mathlib.Core.List.{List, [], _∷_, _++_}
 use mir.Val.{boolByte}
-use lib.ListN.{length}
+use lib.ListN.{length, getD}
 use lib.Seq.{sets, sets-eq}
 use Rattle.cpu.specs.declared.State.{State}
 use Rattle.run.specs.declared.Cause.{Cause}
+use Rattle.meter.specs.Answer.{Longest, noWait, longest, Lowest, noOver, overAt}
 use Rattle.cp1610.specs.Words.{stateLength, eight, flagWord, statusWords, packed}
 use Rattle.cp1610.specs.Answers.{runLength, causeNumber, runWords}
+use Rattle.cp1610.specs.MeterCall.{regionLength, longestWords, lowestWords, regionWords}
 
 -- a bool cast to a number is 1 or 0
 pub cast-flag : (b : Bool) → boolByte b ≡ flagWord b
@@ -25,3 +27,11 @@ stored-words words st h = sets-eq (eight (st .registers) ++ statusWords (st .sta
 pub stored-run : (out : List ℕ) (steps cycles : ℕ) (cause : Cause) → runLength ≤ length out → sets out 0 (steps ∷ cycles ∷ causeNumber cause ∷ []) ≡ runWords out steps cycles cause
 unfolding runWords
 stored-run out steps cycles cause h = sets-eq (steps ∷ cycles ∷ causeNumber cause ∷ []) out 0 h
+
+-- and what a region names
+pub stored-region : (out : List ℕ) (l : Longest) (o : Lowest) → regionLength ≤ length out → sets out 0 (getD (longestWords l) 0 0 ∷ getD (longestWords l) 1 0 ∷ getD (longestWords l) 2 0 ∷ getD (lowestWords o) 0 0 ∷ getD (lowestWords o) 1 0 ∷ []) ≡ regionWords out l o
+unfolding regionWords
+stored-region out noWait noOver h = sets-eq (0 ∷ 0 ∷ 0 ∷ 0 ∷ 0 ∷ []) out 0 h
+stored-region out noWait (overAt b) h = sets-eq (0 ∷ 0 ∷ 0 ∷ 1 ∷ b ∷ []) out 0 h
+stored-region out (longest n a) noOver h = sets-eq (1 ∷ n ∷ a ∷ 0 ∷ 0 ∷ []) out 0 h
+stored-region out (longest n a) (overAt b) h = sets-eq (1 ∷ n ∷ a ∷ 1 ∷ b ∷ []) out 0 h

@@ -2,4 +2,5 @@
 pub mod Words
 pub mod Answers
 pub mod Call
+pub mod MeterCall
 pub mod Laws

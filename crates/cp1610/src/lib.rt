@@ -2,9 +2,12 @@
 // back as words. docs/C-INTERFACE.md is the page for callers.
 ghost use mathlib.Core.Path.{_≡_};
 ghost use Rattle.cp1610.specs.Call.{stateCalled, called, runCalled, resetCall, stepCall, runCall};
+ghost use Rattle.cp1610.specs.MeterCall.{waitCall, outCalled, regionCall};
+use meter::RegionAnswer;
 use run::RunAnswer;
 
 mod answers;
+mod meter_words;
 mod words;
 
 // The state that a machine starts from.
@@ -65,6 +68,38 @@ pub extern "C" fn cp1610_run(
             let after = ran.state;
             words::pack(state, after);
             answers::put_run(out, steps, cycles, cause);
+            answers::success(answers::DONE, 0)
+        }
+    }
+}
+
+// The wait meter for an address.
+#[no_mangle]
+pub extern "C" fn cp1610_wait(mem: &[u16], address: u16, limit: u16) -> u64
+    ensures { λ r. ⌜ r ≡ waitCall (now (mem .entry)) address limit ⌝ }
+{
+    meter_words::wait_word(meter::wait(mem, address, limit))
+}
+
+// The wait meter for a region. `out` is written only once it is known that the region was not refused.
+#[no_mangle]
+pub extern "C" fn cp1610_region(
+    mem: &[u16],
+    first: u16,
+    last: u16,
+    limit: u16,
+    out: &mut [u32],
+) -> u64
+    ensures { λ r. ⌜ outCalled r (now (out .exit)) ≡ regionCall (now (mem .entry)) first last limit (now (out .entry)) ⌝ }
+{
+    if out.len() < meter_words::REGION_LENGTH {
+        return answers::SHORT_BUFFER;
+    }
+    let answer = meter::region(mem, first, last, limit);
+    match answer {
+        RegionAnswer::Refused(refusal) => refusal::number(refusal) as u64,
+        RegionAnswer::Found(longest, lowest) => {
+            meter_words::put_region(out, longest, lowest);
             answers::success(answers::DONE, 0)
         }
     }
