@@ -52,7 +52,7 @@ enum cp1610_report { CP1610_STEPS = 0, CP1610_CYCLES = 1, CP1610_CAUSE = 2, CP16
 enum cp1610_cause { CP1610_BY_HALT = 0, CP1610_BY_UNSPECIFIED = 1, CP1610_BY_BUDGET = 2 };
 
 /* What a region reports. Where there is none, the numbers are 0. */
-enum cp1610_region {
+enum cp1610_region_report {
     CP1610_HAS_WAIT = 0,
     CP1610_LONGEST = 1,
     CP1610_LONGEST_START = 2,
