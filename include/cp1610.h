@@ -32,8 +32,9 @@ enum cp1610_state {
 /* The lines of a step or a run. External branch input n is bit 16 + n. */
 enum cp1610_lines { CP1610_INTRM_HIGH = 1, CP1610_BUSRQ_HIGH = 2 };
 
-/* The kinds of a success. */
+/* The kinds of a success: of a step, and of a wait. Every other call has CP1610_DONE only. */
 enum cp1610_kind { CP1610_DONE = 1, CP1610_GRANTED = 3, CP1610_INTERRUPTED = 4, CP1610_EXECUTED = 5 };
+enum cp1610_wait_kind { CP1610_WAITS = 1, CP1610_OVER = 2, CP1610_MEETS_HALT = 3, CP1610_MEETS_UNSPECIFIED = 4 };
 
 /* The refusals: document 01's numbers, and 255 for a buffer that is too short. A refused call alters nothing. */
 enum cp1610_refusal {
@@ -41,12 +42,35 @@ enum cp1610_refusal {
     CP1610_IS_HALTED = 2,
     CP1610_UNSPECIFIED = 3,
     CP1610_BUDGET_TOO_HIGH = 4,
+    CP1610_TEXT_ROOM_TOO_SMALL = 5,
+    CP1610_NOT_A_LISTING_LINE = 6,
+    CP1610_FIRST_ABOVE_LAST = 7,
+    CP1610_LIMIT_TOO_HIGH = 8,
+    CP1610_MALFORMED_IMAGE = 9,
+    CP1610_WRONG_BOARD = 10,
+    CP1610_PAST_MEMORY = 11,
+    CP1610_SUM_DIFFERS = 12,
+    CP1610_IMAGE_ROOM_TOO_SMALL = 13,
     CP1610_SHORT_BUFFER = 255
 };
 
 /* What a run reports, and the causes that end one. */
 enum cp1610_report { CP1610_STEPS = 0, CP1610_CYCLES = 1, CP1610_CAUSE = 2, CP1610_RUN_WORDS = 3 };
 enum cp1610_cause { CP1610_BY_HALT = 0, CP1610_BY_UNSPECIFIED = 1, CP1610_BY_BUDGET = 2 };
+
+/* What a region reports. Where there is none, the numbers are 0. */
+enum cp1610_region_report {
+    CP1610_HAS_WAIT = 0,
+    CP1610_LONGEST = 1,
+    CP1610_LONGEST_START = 2,
+    CP1610_HAS_OVER = 3,
+    CP1610_OVER_START = 4,
+    CP1610_REGION_WORDS = 5
+};
+
+/* What a listing reports, and the most words of a line. */
+enum cp1610_list_report { CP1610_TEXT_LENGTH = 0, CP1610_WORDS_USED = 1, CP1610_NEXT_D = 2, CP1610_LIST_WORDS = 3 };
+enum cp1610_line { CP1610_LINE_WORDS = 3, CP1610_TEXT_ROOM = 16 };
 
 /* An answer is a refusal below 2^32; else the high half is the kind and the low half the value. */
 static inline int cp1610_is_refused(uint64_t answer) { return answer >> 32 == 0; }
@@ -65,6 +89,38 @@ uint64_t cp1610_step(uint16_t *state, size_t state_length, uint16_t *mem, size_t
  * Refused by 1 for a memory above 65,536 words, else by 4 for a budget above 1,000,000, else by 2 for a halted machine. */
 uint64_t cp1610_run(uint16_t *state, size_t state_length, uint16_t *mem, size_t mem_length, uint32_t lines, uint32_t budget,
     uint32_t *out, size_t out_length);
+
+/* The wait meter for an address. Kind 1 a request is heard after so many cycles, which is the value; 2 they are more than the limit;
+ * 3 the walk meets HLT; 4 it meets an unspecified form, whose address is the value.
+ * Refused by 1 for a memory above 65,536 words, else by 8 for a limit above 4,096. */
+uint64_t cp1610_wait(const uint16_t *mem, size_t mem_length, uint16_t address, uint16_t limit);
+
+/* The wait meter for every address from first to last. Kind 1; `out` gets whether any has a wait, the longest and the lowest start
+ * that has it, whether any is over the limit, and the lowest such start.
+ * Refused by 1 for a memory above 65,536 words, else by 7 for a first above last, else by 8 for a limit above 4,096. */
+uint64_t cp1610_region(const uint16_t *mem, size_t mem_length, uint16_t first, uint16_t last, uint16_t limit, uint32_t *out,
+    size_t out_length);
+
+/* The line of the instruction at an address, with D as it stands there (anything but 0 is set). Kind 1; `out` gets the text's length,
+ * at most 14, the words used and the next D. The text has no end mark, and the room past it stays.
+ * Refused by 1 for a memory above 65,536 words, else by 5 for a text room under 16 bytes. */
+uint64_t cp1610_list(const uint16_t *mem, size_t mem_length, uint16_t address, uint8_t d, uint8_t *text, size_t text_length,
+    uint32_t *out, size_t out_length);
+
+/* The words of a line, with D as it stands before it. Kind 1; the value is the count of words, and those past it stay.
+ * Refused by 6 for a line that is not one of the lister's. */
+uint64_t cp1610_assemble(const uint8_t *line, size_t line_length, uint8_t d, uint16_t *words, size_t words_length);
+
+/* Loads an image file for a board. The answer is 2^32 + the number of records, which come below 2^32 in a file below 32 GiB.
+ * Refused by 1 for a memory above 65,536 words, else by the file's first offence: 9 malformed, 10 another board's, 11 a record past
+ * the memory, 12 the sum differs. */
+uint64_t cp1610_load(uint16_t board, uint16_t *mem, size_t mem_length, const uint8_t *file, size_t file_length);
+
+/* Writes the words from first to last as an image file for a board. The answer is 2^32 + the file's length; the room past it stays.
+ * Refused by 1 for a memory above 65,536 words, else by 7 for a first above last, else by 11 for a region past the memory, else by
+ * 13 for a room that is too small. */
+uint64_t cp1610_write(uint16_t board, const uint16_t *mem, size_t mem_length, uint16_t first, uint16_t last, uint8_t *room,
+    size_t room_length);
 
 #ifdef __cplusplus
 }

@@ -3,4 +3,6 @@ pub mod Words
 pub mod Answers
 pub mod Call
 pub mod MeterCall
+pub mod ImageCall
+pub mod ListingCall
 pub mod Laws

@@ -1,6 +1,6 @@
 // Answers as 64 bits: a refusal is its number, and a success has its kind in the high half and its value in the low one.
 ghost use mathlib.Core.Path.{_≡_};
-ghost use Prim.Native.Nat.{_≤_};
+ghost use Prim.Native.Nat.{_≤_, _<_};
 ghost use lib.ListN.{length};
 ghost use Rattle.cpu.specs.Answer.{reported};
 ghost use Rattle.cp1610.specs.Answers.{isRefusal, successWord, answerWord, runLength, causeNumber, runWords};
@@ -30,6 +30,14 @@ pub(crate) fn success(kind: u16, value: u32) -> u64
     ensures { λ r. ⌜ r ≡ successWord kind value ⌝ }
 {
     (kind as u64) * HIGH_HALF + (value as u64)
+}
+
+// A success of kind 1 whose value is a count.
+pub(crate) fn counted(count: usize) -> u64
+    requires { ⌜ count < 0x8000000000000000 ⌝ }
+    ensures { λ r. ⌜ r ≡ successWord 1 count ⌝ }
+{
+    HIGH_HALF + count as u64
 }
 
 pub(crate) fn is_refusal(result: u64) -> bool

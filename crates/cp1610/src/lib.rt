@@ -3,10 +3,16 @@
 ghost use mathlib.Core.Path.{_≡_};
 ghost use Rattle.cp1610.specs.Call.{stateCalled, called, runCalled, resetCall, stepCall, runCall};
 ghost use Rattle.cp1610.specs.MeterCall.{waitCall, outCalled, regionCall};
+ghost use Rattle.cp1610.specs.ImageCall.{loadCalled, loadCall, writeCalled, writeCall};
+ghost use Rattle.cp1610.specs.ListingCall.{assembleCalled, assembleCall, listCalled, listCall};
+use image::LoadAnswer;
+use image::WriteAnswer;
+use listing::Listing;
 use meter::RegionAnswer;
 use run::RunAnswer;
 
 mod answers;
+mod listing_words;
 mod meter_words;
 mod words;
 
@@ -102,5 +108,74 @@ pub extern "C" fn cp1610_region(
             meter_words::put_region(out, longest, lowest);
             answers::success(answers::DONE, 0)
         }
+    }
+}
+
+// The line at an address. `out` is written only once it is known that the listing was not refused.
+#[no_mangle]
+pub extern "C" fn cp1610_list(
+    mem: &[u16],
+    address: u16,
+    d: u8,
+    text: &mut [u8],
+    out: &mut [u32],
+) -> u64
+    ensures { λ r. ⌜ listCalled r (now (text .exit)) (now (out .exit)) ≡ listCall (now (mem .entry)) address d (now (text .entry)) (now (out .entry)) ⌝ }
+{
+    if out.len() < listing_words::LIST_LENGTH {
+        return answers::SHORT_BUFFER;
+    }
+    let answer = listing::disassemble(mem, address, d != 0, text);
+    match answer {
+        Listing::Refused(refusal) => refusal::number(refusal) as u64,
+        Listing::Listed {
+            length,
+            words,
+            double,
+        } => {
+            listing_words::put_listing(out, length as u32, words, double);
+            answers::success(answers::DONE, 0)
+        }
+    }
+}
+
+// The words of a line.
+#[no_mangle]
+pub extern "C" fn cp1610_assemble(line: &[u8], d: u8, words: &mut [u16]) -> u64
+    ensures { λ r. ⌜ assembleCalled r (now (words .exit)) ≡ assembleCall (now (line .entry)) d (now (words .entry)) ⌝ }
+{
+    if words.len() < listing_words::LINE_WORDS {
+        return answers::SHORT_BUFFER;
+    }
+    listing_words::put_assembly(words, listing::assemble(line, d != 0))
+}
+
+// Loads an image file.
+#[no_mangle]
+pub extern "C" fn cp1610_load(board: u16, mem: &mut [u16], file: &[u8]) -> u64
+    ensures { λ r. ⌜ loadCalled r (now (mem .exit)) ≡ loadCall board (now (mem .entry)) (now (file .entry)) ⌝ }
+{
+    let answer = image::load(board, mem, file);
+    match answer {
+        LoadAnswer::Refused(refusal) => refusal::number(refusal) as u64,
+        LoadAnswer::Loaded(records) => answers::counted(records),
+    }
+}
+
+// Writes an image file.
+#[no_mangle]
+pub extern "C" fn cp1610_write(
+    board: u16,
+    mem: &[u16],
+    first: u16,
+    last: u16,
+    room: &mut [u8],
+) -> u64
+    ensures { λ r. ⌜ writeCalled r (now (room .exit)) ≡ writeCall board (now (mem .entry)) first last (now (room .entry)) ⌝ }
+{
+    let answer = image::write(board, mem, first, last, room);
+    match answer {
+        WriteAnswer::Refused(refusal) => refusal::number(refusal) as u64,
+        WriteAnswer::Written(bytes) => answers::counted(bytes),
     }
 }
