@@ -71,7 +71,7 @@ rowOf (Branch b) double = branchRow b
 rowOf (Store s d) double = storeRow s
 rowOf (Operate row s d) double = operateRow row s double
 
--- every row costs 4 to 12 cycles, of which a branch saves at most 2, and has 1 to 3 words
+-- every row costs 4 to 12 cycles, of which a branch saves at most 2
 pub record RowBounds : Type 0 where
   pub least : (i : Instr) (double : Bool) → 4 ≤ rowOf i double .cycles
   pub most : (i : Instr) (double : Bool) → rowOf i double .cycles ≤ 12
