@@ -6,11 +6,9 @@ use mathlib.Core.List.{List, [], _∷_}
 use mathlib.Core.Logic.{_⊎_, inl, inr, ⊎-elim}
 use native.Mathlib.Omega.{arith}
 use native.Mathlib.Decide.{decLe}
-use lib.Dec.{eqb, ltb}
 use lib.ListN.{length, getD, drop, set, length-set, length-drop}
 use lib.Seq.{getD-set-other, getD-drop, drop-set-lt, drop-set-add}
 use borrow.Author.Tests.{eq-eqb, ne-eqb, eqb-true}
-use Rattle.refusal.specs.declared.Refusal.{Refusal}
 use Rattle.refusal.specs.declared.Refusal.the-variants.{MemoryTooLong, WrongBoard, SumDiffers}
 use Rattle.memory.specs.Memory.{tooLong}
 use Rattle.word.proofs.Choice.{cond-true, cond-false}
@@ -19,13 +17,13 @@ use Rattle.image.specs.declared.parse.Head.the-variants.{Board, Malforme
 use Rattle.image.specs.declared.parse.Part.{Part}
 use Rattle.image.specs.declared.parse.Part.the-variants.{Record as AtRecord, Tail, Offence}
 use Rattle.image.specs.Bytes.{wordAt, wordsOf}
-use Rattle.image.specs.Format.{total, Record, recordAt, recordSum, recordsSum, checksum}
+use Rattle.image.specs.Format.{total, Record, recordAt, recordsSum, checksum}
 use Rattle.image.specs.Read.{headOf, placeOf, recordOf, tailOf, partOf, Body, whole, broken, withRecord, follow, bodyOf}
-use Rattle.image.specs.Answer.{Reported, refused, answered}
-use Rattle.image.specs.Load.{Loading, refuse, accept, isFor, sumAgrees, sumTested, boardTested, loadOf}
-use Rattle.image.specs.Trip.{GoodFile, InWords, ByteChanged}
+use Rattle.image.specs.Answer.{answered}
+use Rattle.image.specs.Load.{refuse, accept, isFor, sumAgrees, sumTested, boardTested, loadOf}
+use Rattle.image.specs.Trip.{InWords, ByteChanged}
 use Rattle.image.proofs.ByteLaws.{words-length}
-use Rattle.image.proofs.ReadLaws.{Sound, part-sound, body-law}
+use Rattle.image.proofs.ReadLaws.{part-sound, body-law}
 use Rattle.image.proofs.LoadLaws.{load-head}
 use Rattle.image.proofs.TripLaws.{no-refusal}
 

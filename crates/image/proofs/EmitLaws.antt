@@ -1,27 +1,25 @@
 -- Laws of cutting a region into records, and of the writer's loops.
-use Prim.Native.Nat.{ℕ, zero, suc, pred, min, _+_, _-_, _*_, _/_, _%_, _<_, _≤_}
+use Prim.Native.Nat.{ℕ, zero, suc, pred, min, _+_, _-_, _*_, _%_, _<_, _≤_}
 use mathlib.Core.Path.{_≡_, refl, sym, ap, _∙_}
 use mathlib.Core.Bool.{Bool, true, false, cond}
 use mathlib.Core.List.{List, [], _∷_, _++_, append-assoc, append-nil}
 use native.Mathlib.Omega.{arith}
 use native.Mathlib.Numerals.{add-one}
-use lib.Dec.{eqb, ltb}
-use lib.ListN.{length, getD, take, drop, set, length-append, length-take, length-drop, drop-of-length-le}
+use lib.Dec.{eqb}
+use lib.ListN.{length, getD, take, drop, length-append, length-take, length-drop}
 use lib.Seq.{take-suc, take-length, drop-drop, sets, length-sets}
 use borrow.Author.Tests.{eq-eqb, ne-eqb, eqb-true, eqb-false, lt-ltb, le-ltb}
-use Rattle.refusal.specs.declared.Refusal.{Refusal}
 use Rattle.refusal.specs.declared.Refusal.the-variants.{MemoryTooLong, FirstAboveLast, PastMemory, ImageRoomTooSmall}
 use Rattle.refusal.specs.Refusals.{refusalNumber}
 use Rattle.refusal.proofs.Laws.{numbers-apart}
 use Rattle.memory.specs.Memory.{tooLong}
 use Rattle.word.specs.Word.{wrapAdd}
 use Rattle.word.proofs.Choice.{cond-true, cond-false}
-use Rattle.image.specs.declared.WriteAnswer.{WriteAnswer}
 use Rattle.image.specs.declared.WriteAnswer.the-variants.{Refused, Written}
 use Rattle.image.specs.Bytes.{bytesOf, overwrite}
-use Rattle.image.specs.Format.{recordLimit, idMark, atMark, okMark, total, Record, recordOver, recordSum, recordsSum, checksum, recordWords, recordsWords, headWords, tailWords, imageOf}
+use Rattle.image.specs.Format.{recordLimit, idMark, okMark, Record, recordOver, recordSum, recordsSum, checksum, recordWords, recordsWords, headWords, tailWords, imageOf}
 use Rattle.image.specs.Answer.{WriteAnswersApart}
-use Rattle.image.specs.Write.{cutFrom, cutOf, recordCount, imageLength, Writing, refuseRoom, writing, regionImage, written, writeOf}
+use Rattle.image.specs.Write.{cutFrom, cutOf, recordCount, imageLength, refuseRoom, writing, regionImage, written, writeOf}
 use Rattle.image.proofs.ByteLaws.{bytes-length, bytes-append, sets-split, overwrite-sets}
 use Rattle.image.proofs.PassLaws.{mod-left, mod-right}
 

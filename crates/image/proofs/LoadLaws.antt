@@ -2,26 +2,24 @@
 use Prim.Native.Nat.{ℕ, _+_, _-_, _%_}
 use mathlib.Core.Path.{_≡_, refl, sym, ap, _∙_}
 use mathlib.Core.Bool.{Bool, true, false, cond}
-use mathlib.Core.List.{List, [], _∷_}
+use mathlib.Core.List.{List}
 use native.Mathlib.Omega.{arith}
 use lib.Dec.{eqb}
 use lib.ListN.{length, take, drop}
 use Rattle.refusal.specs.declared.Refusal.{Refusal}
-use Rattle.refusal.specs.declared.Refusal.the-variants.{MemoryTooLong, MalformedImage, WrongBoard, SumDiffers}
+use Rattle.refusal.specs.declared.Refusal.the-variants.{MemoryTooLong, WrongBoard, SumDiffers}
 use Rattle.refusal.specs.Refusals.{refusalNumber}
 use Rattle.refusal.proofs.Laws.{numbers-apart}
 use Rattle.memory.specs.Memory.{tooLong}
 use Rattle.word.specs.Word.{wrapAdd}
-use Rattle.image.specs.declared.LoadAnswer.{LoadAnswer}
 use Rattle.image.specs.declared.LoadAnswer.the-variants.{Refused, Loaded}
 use Rattle.image.specs.declared.parse.Head.{Head}
-use Rattle.image.specs.declared.parse.Head.the-variants.{Board, Malformed}
-use Rattle.image.specs.declared.check.Checked.{Checked}
+use Rattle.image.specs.declared.parse.Head.the-variants.{Board}
 use Rattle.image.specs.declared.check.Checked.the-variants.{Whole, Broken}
 use Rattle.image.specs.Format.{recordsSum, checksum}
 use Rattle.image.specs.Read.{headOf, Body, whole, broken, bodyOf}
-use Rattle.image.specs.Answer.{Reported, refused, answered, loadReported, LoadAnswersApart}
-use Rattle.image.specs.Load.{Loading, refuse, placed, accept, isFor, sumTested, boardTested, loadOf, loaded}
+use Rattle.image.specs.Answer.{answered, LoadAnswersApart}
+use Rattle.image.specs.Load.{Loading, refuse, isFor, sumTested, boardTested, loadOf, loaded}
 use Rattle.image.specs.Pass.{summary, isWhole, placedBody}
 use Rattle.image.proofs.PassLaws.{mod-right}
 use Rattle.image.proofs.ByteLaws.{rest}

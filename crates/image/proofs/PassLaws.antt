@@ -1,8 +1,8 @@
 -- The loops' invariants, and what each turn of a loop does to them.
-use Prim.Native.Nat.{ℕ, zero, suc, _+_, _-_, _*_, _%_, _<_, _≤_}
+use Prim.Native.Nat.{ℕ, suc, _+_, _-_, _*_, _%_, _<_, _≤_}
 use mathlib.Core.Path.{_≡_, refl, sym, ap, _∙_}
-use mathlib.Core.Bool.{Bool, true, false}
-use mathlib.Core.List.{List, [], _∷_, _++_}
+use mathlib.Core.Bool.{true, false}
+use mathlib.Core.List.{List, [], _∷_}
 use native.Mathlib.Omega.{arith}
 use native.Mathlib.Numerals.{add-one}
 use lib.Dec.{lit<}
@@ -11,16 +11,14 @@ use lib.Seq.{take-suc, take-length, drop-drop, sets, length-sets}
 use Rattle.refusal.specs.declared.Refusal.{Refusal}
 use Rattle.image.specs.declared.parse.Part.{Part}
 use Rattle.image.specs.declared.parse.Part.the-variants.{Record as AtRecord, Tail, Offence}
-use Rattle.image.specs.declared.check.Checked.{Checked}
 use Rattle.image.specs.declared.check.Checked.the-variants.{Whole, Broken}
 use Rattle.word.specs.Word.{wrapAdd}
 use Rattle.word.proofs.WordLaws.{add-low}
-use Rattle.image.specs.Bytes.{wordAt, wordsOf, overwrite}
+use Rattle.image.specs.Bytes.{overwrite}
 use Rattle.image.specs.Format.{Record, recordAt, total, recordSum, recordsSum}
 use Rattle.image.specs.Read.{partOf, Body, whole, broken, withRecord, follow, bodyOf}
-use Rattle.image.specs.Load.{placed}
 use Rattle.image.specs.Pass.{summary, isWhole, placedBody}
-use Rattle.image.proofs.ByteLaws.{rest, words-length, record-word, total-step, sets-split, overwrite-sets, overwrite-length}
+use Rattle.image.proofs.ByteLaws.{rest, words-length, total-step, sets-split, overwrite-sets, overwrite-length}
 use Rattle.image.proofs.ReadLaws.{Sound, part-sound, body-law}
 
 -- a sum modulo 65,536 may be taken modulo 65,536 on the way

@@ -1,6 +1,6 @@
 -- Laws of reading: what a part shows, and the body's equation without a count.
 use Prim.Native.Nat.{ℕ, zero, suc, _+_, _-_, _*_, _<_, _≤_}
-use mathlib.Core.Path.{_≡_, refl, sym, ap, _∙_}
+use mathlib.Core.Path.{_≡_, refl, ap, _∙_}
 use mathlib.Core.Bool.{Bool, true, false, cond}
 use mathlib.Core.List.{List, [], _∷_}
 use native.Mathlib.Omega.{arith}
@@ -14,8 +14,8 @@ use Rattle.image.specs.declared.parse.Head.the-variants.{Board, Malforme
 use Rattle.image.specs.declared.parse.Part.{Part}
 use Rattle.image.specs.declared.parse.Part.the-variants.{Record as AtRecord, Tail, Offence}
 use Rattle.image.specs.Bytes.{wordAt}
-use Rattle.image.specs.Format.{recordAt}
-use Rattle.image.specs.Read.{headOf, placeOf, recordOf, tailOf, partOf, Body, whole, broken, withRecord, follow, bodyFrom, bodyOf}
+use Rattle.image.specs.Format.{recordLimit, idMark, atMark, okMark, recordAt}
+use Rattle.image.specs.Read.{headOf, placeOf, recordOf, tailOf, partOf, Body, withRecord, follow, bodyFrom, bodyOf}
 use Rattle.word.proofs.Choice.{cond-both}
 
 -- what holds of each way, given the test's outcome, holds of the one taken
@@ -26,7 +26,7 @@ cond-cases P false p q = q refl
 -- what a record's part shows
 pub record Sound (len : ℕ) (bytes : List ℕ) (a c : ℕ) : Type 0 where
   pub some : 0 < c
-  pub few : c ≤ 1024
+  pub few : c ≤ recordLimit
   pub complete : 6 + c * 2 ≤ length bytes
   pub within : a + c ≤ len
 
@@ -45,13 +45,13 @@ module _ (len : ℕ) (bytes : List ℕ) (a c : ℕ) where
   unfolding placeOf
   place-sound a₁ c₁ =
       cond-cases (Claim len bytes a c) (eqb c₁ 0) (λ e. offence MalformedImage) (λ e0.
-      cond-cases (Claim len bytes a c) (ltb 1024 c₁) (λ e. offence MalformedImage) (λ e1.
+      cond-cases (Claim len bytes a c) (ltb recordLimit c₁) (λ e. offence MalformedImage) (λ e1.
       cond-cases (Claim len bytes a c) (ltb (length bytes) (6 + c₁ * 2)) (λ e. offence MalformedImage) (λ e2.
       cond-cases (Claim len bytes a c) (ltb len (a₁ + c₁)) (λ e. offence PastMemory) (λ e3. λ f.
       let ea : a₁ ≡ a = cc in
       let ec : c₁ ≡ c = cc in
       let n0 = eqb-false c₁ 0 e0 in
-      let n1 = ltb-false 1024 c₁ e1 in
+      let n1 = ltb-false recordLimit c₁ e1 in
       let n2 = ltb-false (length bytes) (6 + c₁ * 2) e2 in
       let n3 = ltb-false len (a₁ + c₁) e3 in
       record { some = omega arith; few = omega arith; complete = omega arith; within = omega arith }))))
@@ -60,9 +60,9 @@ module _ (len : ℕ) (bytes : List ℕ) (a c : ℕ) where
   unfolding partOf recordOf tailOf
   part-sound =
       cond-both (Claim len bytes a c) (ltb (length bytes) 2) (offence MalformedImage)
-      (cond-both (Claim len bytes a c) (eqb (wordAt bytes 0) 0x4154)
+      (cond-both (Claim len bytes a c) (eqb (wordAt bytes 0) atMark)
       (cond-both (Claim len bytes a c) (ltb (length bytes) 6) (offence MalformedImage) (place-sound (wordAt bytes 2) (wordAt bytes 4)))
-      (cond-both (Claim len bytes a c) (eqb (wordAt bytes 0) 0x4F4B)
+      (cond-both (Claim len bytes a c) (eqb (wordAt bytes 0) okMark)
       (cond-both (Claim len bytes a c) (eqb (length bytes) 4) (tail (wordAt bytes 2)) (offence MalformedImage))
       (offence MalformedImage)))
 
@@ -77,7 +77,7 @@ pub head-long : (file : List ℕ) (b : ℕ) → headOf file ≡ Board b → 4 �
 unfolding headOf
 head-long file b =
     cond-cases (Long file b) (ltb (length file) 4) (λ e. malformed file b) (λ e.
-    cond-both (Long file b) (eqb (wordAt file 0) 0x4944) (λ f. ltb-false (length file) 4 e) (malformed file b))
+    cond-both (Long file b) (eqb (wordAt file 0) idMark) (λ f. ltb-false (length file) 4 e) (malformed file b))
 
 -- two readers that agree on what follows a record
 follow-same : (f g : List ℕ → Body) (bytes : List ℕ) (p : Part)

@@ -1,5 +1,5 @@
 -- Loading a written file puts the region back, and another board refuses it.
-use Prim.Native.Nat.{ℕ, zero, suc, min, _+_, _-_, _*_, _/_, _%_, _<_, _≤_}
+use Prim.Native.Nat.{ℕ, zero, suc, _+_, _-_, _*_, _/_, _%_, _<_, _≤_}
 use mathlib.Core.Path.{_≡_, refl, sym, ap, _∙_}
 use mathlib.Core.Bool.{Bool, true, false, cond}
 use mathlib.Core.List.{List, [], _∷_, _++_, append-assoc}
@@ -8,21 +8,18 @@ use lib.Dec.{eqb, ltb}
 use lib.ListN.{length, getD, take, drop, length-append, length-take, length-drop, take-append-drop, List·getD-append}
 use lib.Seq.{drop-drop, drop-at, take-append-seam, getD-append-add, getD-take, getD-drop, length-take-le, sets}
 use borrow.Author.Tests.{eq-eqb, ne-eqb, eqb-true, eqb-false, ltb-false, le-ltb}
-use Rattle.refusal.specs.declared.Refusal.{Refusal}
 use Rattle.refusal.specs.declared.Refusal.the-variants.{MemoryTooLong, FirstAboveLast, PastMemory, ImageRoomTooSmall, WrongBoard}
-use Rattle.memory.specs.Memory.{peekOf, tooLong}
-use Rattle.memory.proofs.Laws.{getD-within}
+use Rattle.memory.specs.Memory.{peekOf}
 use Rattle.word.proofs.Choice.{cond-true, cond-false}
 use Rattle.image.specs.declared.parse.Head.the-variants.{Board}
-use Rattle.image.specs.declared.parse.Part.{Part}
 use Rattle.image.specs.declared.parse.Part.the-variants.{Record as AtRecord, Tail}
 use Rattle.image.specs.Bytes.{wordAt, wordsOf, bytesOf, overwrite}
-use Rattle.image.specs.Format.{recordLimit, idMark, atMark, okMark, Record, recordOver, recordAt, checksum, recordWords, recordsWords, headWords, tailWords, imageOf}
-use Rattle.image.specs.Read.{headOf, placeOf, recordOf, tailOf, partOf, Body, whole, broken, withRecord, follow, bodyOf}
-use Rattle.image.specs.Answer.{Reported, refused, answered}
-use Rattle.image.specs.Load.{Loading, refuse, placed, accept, sumAgrees, sumTested, boardTested, loadOf}
+use Rattle.image.specs.Format.{recordLimit, Record, recordOver, checksum, recordWords, recordsWords, tailWords, imageOf}
+use Rattle.image.specs.Read.{headOf, placeOf, recordOf, tailOf, partOf, whole, follow, bodyOf}
+use Rattle.image.specs.Answer.{refused, answered}
+use Rattle.image.specs.Load.{refuse, placed, accept, sumAgrees, sumTested, loadOf}
 use Rattle.image.specs.Write.{cutFrom, cutOf, recordCount, regionOf, Writing, refuseRoom, writing, regionImage, writeOf}
-use Rattle.image.specs.Trip.{WrittenFile, PutBack, RoundTrip, isRight, OtherBoard}
+use Rattle.image.specs.Trip.{PutBack, RoundTrip, isRight, OtherBoard}
 use Rattle.image.proofs.ByteLaws.{bytes-length, bytes-append, sets-split, overwrite-sets, overwrite-length}
 use Rattle.image.proofs.ReadLaws.{body-law}
 use Rattle.image.proofs.LoadLaws.{load-head}

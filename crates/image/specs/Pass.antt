@@ -1,12 +1,11 @@
 -- What the loader's two passes make of a body. No public contract speaks of these.
 use Prim.Native.Nat.{ℕ, _+_, _%_}
 use mathlib.Core.Bool.{Bool, true, false}
-use mathlib.Core.List.{List, [], _∷_}
+use mathlib.Core.List.{List}
 use lib.ListN.{length}
 use Rattle.image.specs.declared.check.Checked.{Checked}
 use Rattle.image.specs.declared.check.Checked.the-variants.{Whole, Broken}
-use Rattle.image.specs.Bytes.{overwrite}
-use Rattle.image.specs.Format.{Record, recordsSum}
+use Rattle.image.specs.Format.{recordsSum}
 use Rattle.image.specs.Read.{Body, whole, broken}
 use Rattle.image.specs.Load.{placed}
 

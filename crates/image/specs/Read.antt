@@ -1,7 +1,7 @@
 -- A file read in its own order: the head, then records up to the tail, or the first offence.
 -- "9: missing or wrong mark, cut file, count 0 or above 1,024, bytes after OK"; "11: record .. past the lent memory".
 use Prim.Native.Nat.{ℕ, zero, suc, _+_, _*_}
-use mathlib.Core.Bool.{Bool, cond, _||_}
+use mathlib.Core.Bool.{cond}
 use mathlib.Core.List.{List, [], _∷_}
 use lib.Dec.{eqb, ltb}
 use lib.ListN.{length, drop}

@@ -8,7 +8,7 @@ use lib.ListN.{length, getD, take, drop, set}
 use Rattle.memory.specs.Memory.{peekOf}
 use Rattle.image.specs.Format.{Record}
 use Rattle.image.specs.Read.{Body, whole, broken, bodyOf}
-use Rattle.image.specs.Answer.{Reported, refused, answered}
+use Rattle.image.specs.Answer.{refused, answered}
 use Rattle.image.specs.Load.{Loading, sumAgrees, loadOf}
 use Rattle.image.specs.Write.{recordCount, writeOf}
 

@@ -1,6 +1,6 @@
 -- The writer: "The writer covers a region with full records of 1,024, the last perhaps shorter", refused by 1, 7, 11 and 13 in this order.
 use Prim.Native.Nat.{ℕ, zero, suc, _+_, _-_, _*_, _/_}
-use mathlib.Core.Bool.{Bool, cond}
+use mathlib.Core.Bool.{cond}
 use mathlib.Core.List.{List, [], _∷_}
 use lib.Dec.{eqb, ltb}
 use lib.ListN.{length, take, drop}

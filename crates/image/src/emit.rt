@@ -106,7 +106,7 @@ pub(crate) fn put_image(room: &mut [u8], board: u16, first: u16, region: &[u16])
     format::put_word(room, 0, format::ID_MARK);
     format::put_word(room, 2, board);
     let sum = put_records(room, first, region);
-    format::put_word(room, bytes - 4, format::OK_MARK);
+    format::put_word(room, bytes - format::TAIL_BYTES, format::OK_MARK);
     format::put_word(room, bytes - 2, word::wrapping_add(board, sum));
     WriteAnswer::Written(bytes)
 }

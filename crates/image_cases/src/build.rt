@@ -1,31 +1,23 @@
-// Memories and files for the cases, made without the kit's own loader and writer.
-
-// One word more than the loader and the writer take.
-pub(crate) const MEMORY_ROOM: usize = 65537;
-
-// As much as the longest file that is written, and some bytes more.
-pub(crate) const FILE_ROOM: usize = 131500;
+// Memories and files for the cases, made without the kit's own loader and writer, and compared.
+use crate::text;
 
 // Each word and each byte that a case does not name.
-pub(crate) const BACKGROUND: u16 = 0x5A5A;
+const BACKGROUND: u16 = 0x5A5A;
 
-pub(crate) const BLANK: u8 = 0xA5;
+const BLANK: u8 = 0xA5;
 
-// Puts words into a memory: an address and its word, one pair after the other.
-pub(crate) fn put_cells(memory: &mut [u16], cells: &[u16]) {
-    for i in 0..cells.len() / 2 {
-        memory::poke(memory, cells[i * 2], cells[i * 2 + 1]);
+pub(crate) fn blank_memory(memory: &mut [u16]) {
+    let mut i = 0;
+    while i < memory.len() {
+        memory[i] = BACKGROUND;
+        i += 1;
     }
 }
 
-// The same word from `start` up to `end`.
-pub(crate) fn put_words(memory: &mut [u16], start: usize, end: usize, word: u16) {
-    let mut i = start;
-    while i < end {
-        if memory.len() <= i {
-            return;
-        }
-        memory[i] = word;
+pub(crate) fn blank_room(room: &mut [u8]) {
+    let mut i = 0;
+    while i < room.len() {
+        room[i] = BLANK;
         i += 1;
     }
 }
@@ -41,18 +33,30 @@ pub(crate) fn put_pattern(memory: &mut [u16]) {
     }
 }
 
-// What does not fit is left out, and the case fails.
-pub(crate) fn put_bytes(room: &mut [u8], at: usize, bytes: &[u8]) {
-    let mut to = at;
-    let mut i = 0;
-    while i < bytes.len() {
-        if room.len() <= to {
-            return;
-        }
-        room[to] = bytes[i];
-        to += 1;
-        i += 1;
+// Puts words into a memory: `0010=0034 0011=1234`.
+pub(crate) fn put_cells(memory: &mut [u16], row: &[u8]) {
+    let mut rest = row;
+    while rest.len() > 0 {
+        memory::poke(memory, text::hex_word(rest, 0), text::hex_word(rest, 5));
+        let next = text::from_column(rest, 10);
+        rest = next;
     }
+}
+
+// Puts bytes into a room from its start on: `49 44 00 02`. Answers how many there are.
+pub(crate) fn put_bytes(room: &mut [u8], row: &[u8]) -> usize {
+    let mut rest = row;
+    let mut i = 0;
+    while rest.len() > 0 {
+        if room.len() <= i {
+            return i;
+        }
+        room[i] = text::hex_byte(rest, 0);
+        i += 1;
+        let next = text::from_column(rest, 3);
+        rest = next;
+    }
+    i
 }
 
 pub(crate) fn same_words(a: &[u16], b: &[u16]) -> bool {
@@ -77,4 +81,24 @@ pub(crate) fn same_bytes(a: &[u8], b: &[u8]) -> bool {
         }
     }
     true
+}
+
+// Whether the words from `first` to `last` are those of the memory, and every other word is as it was.
+pub(crate) fn is_back(memory: &[u16], back: &[u16], first: u16, last: u16) -> bool {
+    let start = first as usize;
+    let end = last as usize;
+    if memory.len() != back.len() {
+        return false;
+    }
+    for i in 0..back.len() {
+        let inside = (start <= i) & (i <= end);
+        if back[i] != chosen(inside, memory[i], BACKGROUND) {
+            return false;
+        }
+    }
+    true
+}
+
+fn chosen(first: bool, a: u16, b: u16) -> u16 {
+    if first { a } else { b }
 }

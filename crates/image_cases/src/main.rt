@@ -1,23 +1,93 @@
 // Runs hand-made cases of the image loader and writer. Prints a line for each case, its name with `ok` or `FAILED`, and last the counts.
+// The cases stand in the file `stdin`, whose head says how a case is written.
 mod build;
-mod good;
-mod lengths;
-mod loads;
-mod refused;
-mod regions;
-mod report;
-mod writes;
+mod check;
+mod row;
+mod text;
+
+use libc::STDIN_FILENO;
+use libc::STDOUT_FILENO;
+
+const INPUT_ROOM: usize = 262144;
+
+// One word more than the loader and the writer take.
+const MEMORY_ROOM: usize = 65537;
+
+// The longest file that is written has 131,464 bytes.
+const FILE_ROOM: usize = 131500;
+
+struct Tally {
+    cases: u64,
+    failed: u64,
+}
+
+fn say(words: &[u8]) {
+    io::write_all(STDOUT_FILENO, words);
+}
+
+// Prints the case's line, and counts it.
+fn counted(tally: Tally, name: &[u8], well: bool) -> Tally {
+    say(name);
+    if well {
+        say(b": ok\n");
+    } else {
+        say(b": FAILED\n");
+    }
+    let more = if well { 0 } else { 1 };
+    Tally {
+        cases: std::num::wrapping_add_u64(tally.cases, 1),
+        failed: std::num::wrapping_add_u64(tally.failed, more),
+    }
+}
+
+// Lends the case fresh memories and rooms: `twin` and `mirror` get what memory and room are to hold at its end.
+fn runs_well(first: &[u8], second: &[u8], third: &[u8]) -> bool {
+    let mut memory = [0u16; MEMORY_ROOM];
+    let mut twin = [0u16; MEMORY_ROOM];
+    let mut room = [0u8; FILE_ROOM];
+    let mut mirror = [0u8; FILE_ROOM];
+    check::is_well(
+        row::case_of(first),
+        second,
+        third,
+        &mut memory,
+        &mut twin,
+        &mut room,
+        &mut mirror,
+    )
+}
+
+// A row that is no remark is the first of a case's three rows, so that no row is passed over.
+fn run_cases(input: &[u8]) -> Tally {
+    let mut tally = Tally {
+        cases: 0,
+        failed: 0,
+    };
+    let mut rest = input;
+    while rest.len() > 0 {
+        let first = text::first_row(rest);
+        let second = text::after_first_row(rest);
+        if text::is_remark(first) {
+            rest = second;
+        } else {
+            let third = text::after_first_row(second);
+            let well = runs_well(first, text::first_row(second), text::first_row(third));
+            tally = counted(tally, row::name_of(first), well);
+            rest = text::after_first_row(third);
+        }
+    }
+    tally
+}
 
 fn main() {
-    let mut tally = report::none();
-    tally = good::run(tally);
-    tally = refused::run_heads(tally);
-    tally = refused::run_records(tally);
-    tally = refused::run_tails(tally);
-    tally = refused::run_order(tally);
-    tally = lengths::run(tally);
-    tally = writes::run(tally);
-    tally = writes::run_order(tally);
-    tally = regions::run(tally);
-    report::write_summary(tally);
+    let mut input = [0u8; INPUT_ROOM];
+    let length = io::read_full(STDIN_FILENO, &mut input);
+    let tally = run_cases(&input[..length]);
+    if length == INPUT_ROOM {
+        say(b"the input fills its room, and may be cut\n");
+    }
+    io::print_decimal(STDOUT_FILENO, tally.cases);
+    say(b" cases, ");
+    io::print_decimal(STDOUT_FILENO, tally.failed);
+    say(b" failed\n");
 }
