@@ -18,9 +18,9 @@ use Rattle.cpu.specs.declared.Lines.{Lines}
 use Rattle.cpu.specs.State.{notedOf}
 use Rattle.cpu.specs.Store.{Store, keep, put, Effect, stored}
 use Rattle.cpu.specs.Answer.{Reported, refused, answered, cyclesOf, isUnspecified}
-use Rattle.cpu.specs.Step.{Action, refuse, granted, interrupted, executed, effectAt, actionOf, made, stepOf}
+use Rattle.cpu.specs.Step.{Action, refuse, granted, interrupted, executed, effectAt, kindOf, actionOf, made, stepOf}
 use Rattle.cpu.specs.Laws.{RefusedKeepsAll, KeepsLength, ChangesOneWord, Costs, EveryCost}
-use Rattle.cpu.proofs.StepLaws.{at-boundary, by-boundary, by-action}
+use Rattle.cpu.proofs.StepLaws.{at-kind, by-kind, by-action}
 use Rattle.cpu.proofs.RowLaws.{cost-least}
 
 -- an answer that is no refusal
@@ -104,14 +104,15 @@ pub step-charges : (st : State) (m : List ℕ) (l : Lines) → tooLong m ≡ fal
 unfolding stepOf refuse granted interrupted executed effectAt
 step-charges st m l p q =
     let k = notedOf (st .status) l in
-    subst (λ (a : Action). isUnspecified (a .answer) ≡ false → 1 ≤ cyclesOf (a .answer)) (sym (at-boundary st m l k refl p q))
-    (by-boundary (λ (a : Action). isUnspecified (a .answer) ≡ false → 1 ≤ cyclesOf (a .answer)) st k m l
+    subst (λ (a : Action). isUnspecified (a .answer) ≡ false → 1 ≤ cyclesOf (a .answer)) (sym (at-kind st m l k refl p q))
+    (by-kind (λ (a : Action). isUnspecified (a .answer) ≡ false → 1 ≤ cyclesOf (a .answer)) st k m l
     (λ e. absurd (true≢false e))
     (λ e. lit≤ tt)
     (λ e. lit≤ tt)
     (λ i e.
     let least = cost-least (st .registers) k (peekOf m) (getD (st .registers) 7 0) (wrapAdd (getD (st .registers) 7 0) (rowOf i (k .d) .words)) (l .external) i (k .d) in
-    omega arith))
+    omega arith)
+    (kindOf k l))
 
 -- the cycles that a step answers are at most 12, and 1 or more where it is not refused
 abbrev Charged : Reported → Type 0

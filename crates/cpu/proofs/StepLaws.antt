@@ -16,8 +16,10 @@ use Rattle.decode.specs.Rows.{rowOf}
 use Rattle.cpu.specs.declared.Status.{Status}
 use Rattle.cpu.specs.declared.State.{State}
 use Rattle.cpu.specs.declared.Lines.{Lines}
+use Rattle.cpu.specs.declared.requests.Kind.{Kind}
+use Rattle.cpu.specs.declared.requests.Kind.the-variants.{Grant, Interrupt, Instruction}
 use Rattle.cpu.specs.State.{notedOf}
-use Rattle.cpu.specs.Step.{Action, refuse, granted, interrupted, effectAt, executed, instructionStep, boundary, actionOf, made, stepOf}
+use Rattle.cpu.specs.Step.{Action, refuse, granted, interrupted, effectAt, executed, instructionStep, instructionAt, kindOf, kindAction, actionOf, made, stepOf}
 
 -- a step is the action, made
 step-is : (st : State) (m : List ℕ) (l : Lines) {a : Action} → actionOf st m l ≡ a → stepOf st m l ≡ made m a
@@ -33,46 +35,37 @@ module _ (st : State) (m : List ℕ) (l : Lines) where
   unfolding actionOf
   step-halted p q = step-is st m l (cond-false _ _ p ∙ cond-true _ _ q)
 
-  -- what a boundary of a machine that is not refused by 1 or 2 leads to; k is the status with INTRM noted
+  -- a machine that is not refused by 1 or 2 goes by its boundary; k is the status with INTRM noted
   module _ (k : Status) (noted : k ≡ notedOf (st .status) l) (p : tooLong m ≡ false) (q : st .status .halted ≡ false) where
-    pub at-boundary : actionOf st m l ≡ boundary st k m l
+    pub at-kind : actionOf st m l ≡ kindAction st k m l (kindOf k l)
     unfolding actionOf
-    at-boundary = cond-false _ _ p ∙ cond-false _ _ q ∙ ap (λ (n : Status). boundary st n m l) (sym noted)
+    at-kind = cond-false _ _ p ∙ cond-false _ _ q ∙ ap (λ (n : Status). kindAction st n m l (kindOf n l)) (sym noted)
+
+    pub step-by-kind : (b : Kind) → kindOf k l ≡ b → stepOf st m l ≡ made m (kindAction st k m l b)
+    step-by-kind b e = step-is st m l (at-kind ∙ ap (kindAction st k m l) e)
 
     pub step-grants : (k .ready && not (l .busrq)) ≡ true → stepOf st m l ≡ made m (granted (st .registers) k)
-    unfolding boundary
-    step-grants g = step-is st m l (at-boundary ∙ cond-true _ _ g)
+    unfolding kindOf
+    step-grants g = step-by-kind Grant (cond-true _ _ g)
 
-    module _ (g : (k .ready && not (l .busrq)) ≡ false) where
-      pub step-interrupts : (k .ready && (k .i && k .pending)) ≡ true → stepOf st m l ≡ made m (interrupted (st .registers) k)
-      unfolding boundary
-      step-interrupts h = step-is st m l (at-boundary ∙ cond-false _ _ g ∙ cond-true _ _ h)
-
-      module _ (h : (k .ready && (k .i && k .pending)) ≡ false) where
-        at-instruction : actionOf st m l ≡ instructionStep st k m l (decodeAt (peekOf m) (getD (st .registers) 7 0) (k .d))
-        unfolding boundary
-        at-instruction = at-boundary ∙ cond-false _ _ g ∙ cond-false _ _ h
-
-        pub step-refuses : decodeAt (peekOf m) (getD (st .registers) 7 0) (k .d) ≡ Unspecified → stepOf st m l ≡ made m (refuse st UnspecifiedForm)
-        step-refuses e = step-is st m l (at-instruction ∙ ap (instructionStep st k m l) e)
-
-        pub step-executes : (i : Instr) → decodeAt (peekOf m) (getD (st .registers) 7 0) (k .d) ≡ Known i → stepOf st m l ≡ made m (executed (st .registers) k (rowOf i (k .d)) (effectAt (st .registers) k m l i (rowOf i (k .d))))
-        step-executes i e = step-is st m l (at-instruction ∙ ap (instructionStep st k m l) e)
+    pub step-executes : (k .ready && not (l .busrq)) ≡ false → (k .ready && (k .i && k .pending)) ≡ false → (i : Instr) → decodeAt (peekOf m) (getD (st .registers) 7 0) (k .d) ≡ Known i → stepOf st m l ≡ made m (executed (st .registers) k (rowOf i (k .d)) (effectAt (st .registers) k m l i (rowOf i (k .d))))
+    unfolding kindOf instructionAt
+    step-executes g h i e = step-by-kind Instruction (cond-false _ _ g ∙ cond-false _ _ h) ∙ ap (λ (x : Decoded). made m (instructionStep st k m l x)) e
 
 -- what holds of each way that a boundary can go holds of the boundary
-pub by-boundary :
+pub by-kind :
     (P : Action → Type 0)
     (st : State) (k : Status) (m : List ℕ) (l : Lines) →
     P (refuse st UnspecifiedForm) →
     P (granted (st .registers) k) →
     P (interrupted (st .registers) k) →
     ((i : Instr) → P (executed (st .registers) k (rowOf i (k .d)) (effectAt (st .registers) k m l i (rowOf i (k .d))))) →
-    P (boundary st k m l)
-unfolding boundary
-by-boundary P st k m l refuses grants interrupts executes =
-    cond-both P (k .ready && not (l .busrq)) grants
-    (cond-both P (k .ready && (k .i && k .pending)) interrupts
-    (decoded (decodeAt (peekOf m) (getD (st .registers) 7 0) (k .d))))
+    (b : Kind) →
+    P (kindAction st k m l b)
+unfolding instructionAt
+by-kind P st k m l refuses grants interrupts executes Grant = grants
+by-kind P st k m l refuses grants interrupts executes Interrupt = interrupts
+by-kind P st k m l refuses grants interrupts executes Instruction = decoded (decodeAt (peekOf m) (getD (st .registers) 7 0) (k .d))
   where
     decoded : (x : Decoded) → P (instructionStep st k m l x)
     decoded Unspecified = refuses
@@ -92,4 +85,4 @@ by-action P st m l refuses grants interrupts executes =
     let k = notedOf (st .status) l in
     cond-both P (tooLong m) (refuses MemoryTooLong)
     (cond-both P (st .status .halted) (refuses Halted)
-    (by-boundary P st k m l (refuses UnspecifiedForm) (grants k) (interrupts k) (executes k)))
+    (by-kind P st k m l (refuses UnspecifiedForm) (grants k) (interrupts k) (executes k) (kindOf k l)))

@@ -9,6 +9,10 @@ use Rattle.cpu.specs.declared.Status.{Status}
 use Rattle.cpu.specs.declared.State.{State}
 use Rattle.cpu.specs.declared.Lines.{Lines}
 
+-- a state from its two parts
+abbrev pub stateOf : List ℕ → Status → State
+stateOf r k = record { registers = r; status = k }
+
 -- "Reset gives R7 = $1000, other registers 0, flags clear, not halted, not ready, previous level high, none pending."
 unfoldable pub resetState : State
 resetState =

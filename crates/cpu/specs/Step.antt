@@ -19,7 +19,9 @@ use Rattle.cpu.specs.declared.State.{State}
 use Rattle.cpu.specs.declared.Lines.{Lines}
 use Rattle.cpu.specs.declared.StepAnswer.{StepAnswer}
 use Rattle.cpu.specs.declared.Stepped.{Stepped}
-use Rattle.cpu.specs.State.{notedOf, interruptedRegisters, interruptedStatus}
+use Rattle.cpu.specs.declared.requests.Kind.{Kind}
+use Rattle.cpu.specs.declared.requests.Kind.the-variants.{Grant, Interrupt, Instruction}
+use Rattle.cpu.specs.State.{stateOf, notedOf, interruptedRegisters, interruptedStatus}
 use Rattle.cpu.specs.Change.{registersAfter, statusAfter}
 use Rattle.cpu.specs.Store.{Store, keep, put, Effect, stored}
 use Rattle.cpu.specs.Execute.{executeOf}
@@ -37,13 +39,13 @@ refuse st r = record { state = st; answer = refused (refusalNumber r); store = k
 
 -- Item 3: "the bus is granted, 1 cycle, nothing else changes"; k has the level and the mark recorded
 unfoldable pub granted : List ℕ → Status → Action
-granted r k = record { state = record { registers = r; status = k }; answer = answered 3 1; store = keep }
+granted r k = record { state = stateOf r k; answer = answered 3 1; store = keep }
 
 -- Item 4: "word at R6 := R7, R6 + 1, R7 := $1004, pending, ready and D clear, 12 cycles"
 unfoldable pub interrupted : List ℕ → Status → Action
 interrupted r k =
     record {
-      state = record { registers = interruptedRegisters r; status = interruptedStatus k };
+      state = stateOf (interruptedRegisters r) (interruptedStatus k);
       answer = answered 4 12;
       store = put (getD r 6 0) (getD r 7 0);
     }
@@ -52,7 +54,7 @@ interrupted r k =
 unfoldable pub executed : List ℕ → Status → Row → Effect → Action
 executed r k row e =
     record {
-      state = record { registers = registersAfter r (e .change); status = statusAfter k row (e .change) };
+      state = stateOf (registersAfter r (e .change)) (statusAfter k row (e .change));
       answer = answered 5 (row .cycles - e .change .saved);
       store = e .store;
     }
@@ -68,18 +70,25 @@ instructionStep st k m l Unspecified = refuse st UnspecifiedForm
 instructionStep st k m l (Known i) =
     executed (st .registers) k (rowOf i (k .d)) (effectAt (st .registers) k m l i (rowOf i (k .d)))
 
--- Items 3 to 5: "ready and BUSRQ low", "ready, I set and pending", else the instruction at R7
-unfoldable pub boundary : State → Status → List ℕ → Lines → Action
-boundary st k m l =
-    cond (k .ready && not (l .busrq)) (granted (st .registers) k)
-    (cond (k .ready && (k .i && k .pending)) (interrupted (st .registers) k)
-    (instructionStep st k m l (decodeAt (peekOf m) (getD (st .registers) 7 0) (k .d))))
+-- the instruction at R7
+unfoldable pub instructionAt : State → Status → List ℕ → Lines → Action
+instructionAt st k m l = instructionStep st k m l (decodeAt (peekOf m) (getD (st .registers) 7 0) (k .d))
+
+-- Items 3 to 5: "ready and BUSRQ low", "ready, I set and pending", "else one instruction"
+unfoldable pub kindOf : Status → Lines → Kind
+kindOf k l = cond (k .ready && not (l .busrq)) Grant (cond (k .ready && (k .i && k .pending)) Interrupt Instruction)
+
+abbrev pub kindAction : State → Status → List ℕ → Lines → Kind → Action
+kindAction st k m l Grant = granted (st .registers) k
+kindAction st k m l Interrupt = interrupted (st .registers) k
+kindAction st k m l Instruction = instructionAt st k m l
 
 -- Item 1: "memory length, then halted"; item 2: the INTRM level and mark are noted
 unfoldable pub actionOf : State → List ℕ → Lines → Action
 actionOf st m l =
+    let k = notedOf (st .status) l in
     cond (tooLong m) (refuse st MemoryTooLong)
-    (cond (st .status .halted) (refuse st Halted) (boundary st (notedOf (st .status) l) m l))
+    (cond (st .status .halted) (refuse st Halted) (kindAction st k m l (kindOf k l)))
 
 -- all that a step leaves: the state, what it reports, and the memory
 pub record Outcome : Type 0 where
@@ -101,4 +110,4 @@ outcome x m = record { state = x .state; answer = reported (x .answer); memory =
 
 -- the code's answer from its parts
 abbrev pub steppedOf : List ℕ → Status → StepAnswer → Stepped
-steppedOf r k a = record { state = record { registers = r; status = k }; answer = a }
+steppedOf r k a = record { state = stateOf r k; answer = a }

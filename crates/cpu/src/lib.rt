@@ -1,8 +1,8 @@
 // The processor: its state, and one step of it.
 ghost use mathlib.Core.Path.{_≡_};
-ghost use Rattle.cpu.specs.State.{resetState, notedOf, interruptedRegisters, interruptedStatus};
+ghost use Rattle.cpu.specs.State.{resetState, stateOf};
 ghost use Rattle.cpu.specs.Change.{statusAfter};
-ghost use Rattle.cpu.specs.Step.{steppedOf, outcome, stepOf};
+ghost use Rattle.cpu.specs.Step.{steppedOf, instructionAt, made, outcome, stepOf};
 ghost use Rattle.cpu.specs.Answer.{isUnspecified, cyclesOf, reported};
 use decode::Decoded;
 use decode::rows;
@@ -15,10 +15,12 @@ mod control;
 mod execute;
 mod operate;
 mod registers;
+mod requests;
 mod single;
 mod store;
 
 use crate::change::Change;
+use crate::requests::Kind;
 
 // The machine beside its registers: flags S Z O C I D, halted, ready, the previous INTRM level (true: high) and the pending
 // mark. `ready` says that a request is heard before the next instruction.
@@ -61,10 +63,8 @@ pub struct Stepped {
     pub answer: StepAnswer,
 }
 
-// Where a reset starts, and where an interrupt is served.
+// Where a reset starts.
 const RESET_ADDRESS: u16 = 0x1000;
-
-const INTERRUPT_ADDRESS: u16 = 0x1004;
 
 pub fn reset() -> State
     ensures { λ r. ⌜ r ≡ resetState ⌝ }
@@ -86,55 +86,15 @@ pub fn reset() -> State
     }
 }
 
-// The INTRM level recorded, and the pending mark.
-fn noted(status: Status, lines: Lines) -> Status
-    ensures { λ r. ⌜ r ≡ notedOf status lines ⌝ }
+fn finished(registers: [u16; 8], status: Status, answer: StepAnswer) -> Stepped
+    ensures { λ r. ⌜ r ≡ steppedOf registers status answer ⌝ }
 {
-    Status {
-        halted: status.halted,
-        s: status.s,
-        z: status.z,
-        o: status.o,
-        c: status.c,
-        i: status.i,
-        d: status.d,
-        ready: status.ready,
-        level: lines.intrm,
-        pending: !lines.intrm & (status.pending | status.level),
-    }
-}
-
-// The registers after interrupt entry: R7 is pushed.
-fn interrupted_registers(registers: [u16; 8]) -> [u16; 8]
-    ensures { λ r. ⌜ r ≡ interruptedRegisters registers ⌝ }
-{
-    [
-        registers[0],
-        registers[1],
-        registers[2],
-        registers[3],
-        registers[4],
-        registers[5],
-        word::wrapping_add(registers[6], 1),
-        INTERRUPT_ADDRESS,
-    ]
-}
-
-// The marks after interrupt entry.
-fn interrupted_status(status: Status) -> Status
-    ensures { λ r. ⌜ r ≡ interruptedStatus status ⌝ }
-{
-    Status {
-        halted: status.halted,
-        s: status.s,
-        z: status.z,
-        o: status.o,
-        c: status.c,
-        i: status.i,
-        d: false,
-        ready: false,
-        level: status.level,
-        pending: false,
+    Stepped {
+        state: State {
+            registers: registers,
+            status: status,
+        },
+        answer: answer,
     }
 }
 
@@ -156,19 +116,33 @@ fn status_after(status: Status, row: Row, change: Change) -> Status
     }
 }
 
-fn finished(registers: [u16; 8], status: Status, answer: StepAnswer) -> Stepped
-    ensures { λ r. ⌜ r ≡ steppedOf registers status answer ⌝ }
+// The instruction at R7; `status` is the state's with INTRM noted. Nothing is changed before the last refusal is decided.
+fn instruction(
+    registers: [u16; 8],
+    before: Status,
+    status: Status,
+    mem: &mut [u16],
+    lines: Lines,
+) -> Stepped
+    ensures { λ r. ⌜ outcome r (now (mem .exit)) ≡ made (now (mem .entry)) (instructionAt (stateOf registers before) status (now (mem .entry)) lines) ⌝ }
 {
-    Stepped {
-        state: State {
-            registers: registers,
-            status: status,
-        },
-        answer: answer,
-    }
+    let pc = registers[7];
+    let decoded = decode::decode_at(mem, pc, status.d);
+    let Decoded::Known(instr) = decoded else {
+        return finished(registers, before, StepAnswer::Refused(Refusal::Unspecified));
+    };
+    let row = rows::row_of(instr, status.d);
+    let next = word::wrapping_add(pc, row.words as u16);
+    let change = execute::execute(&registers, status, mem, pc, next, lines.external, instr);
+    let cycles = row.cycles as u16 - change.saved;
+    finished(
+        registers::written(registers, change),
+        status_after(status, row, change),
+        StepAnswer::Executed(cycles),
+    )
 }
 
-// One step, in document 01's order. Nothing is changed before the last refusal is decided.
+// One step, in document 01's order.
 pub fn step(state: State, mem: &mut [u16], lines: Lines) -> Stepped
     ensures { λ r. ⌜ outcome r (now (mem .exit)) ≡ stepOf state (now (mem .entry)) lines ⌝ }
 {
@@ -186,35 +160,13 @@ pub fn step(state: State, mem: &mut [u16], lines: Lines) -> Stepped
     if halted {
         return finished(registers, before, StepAnswer::Refused(Refusal::Halted));
     }
-    let status = noted(before, lines);
-    let granted = status.ready & !lines.busrq;
-    if granted {
-        return finished(registers, status, StepAnswer::Granted(rows::GRANT_CYCLES));
+    let status = requests::noted(before, lines);
+    let kind = requests::kind_of(status, lines);
+    match kind {
+        Kind::Grant => finished(registers, status, StepAnswer::Granted(rows::GRANT_CYCLES)),
+        Kind::Interrupt => requests::interrupt(registers, status, mem),
+        Kind::Instruction => instruction(registers, before, status, mem, lines),
     }
-    let interrupted = status.ready & (status.i & status.pending);
-    if interrupted {
-        memory::poke(mem, registers[6], registers[7]);
-        let entered = interrupted_registers(registers);
-        return finished(
-            entered,
-            interrupted_status(status),
-            StepAnswer::Interrupted(rows::INTERRUPT_CYCLES),
-        );
-    }
-    let pc = registers[7];
-    let decoded = decode::decode_at(mem, pc, status.d);
-    let Decoded::Known(instr) = decoded else {
-        return finished(registers, before, StepAnswer::Refused(Refusal::Unspecified));
-    };
-    let row = rows::row_of(instr, status.d);
-    let next = word::wrapping_add(pc, row.words as u16);
-    let change = execute::execute(&registers, status, mem, pc, next, lines.external, instr);
-    let cycles = row.cycles as u16 - change.saved;
-    finished(
-        registers::written(registers, change),
-        status_after(status, row, change),
-        StepAnswer::Executed(cycles),
-    )
 }
 
 // The cycles that a step answers, and 0 for a refused one.
@@ -234,29 +186,27 @@ pub fn cycles(answer: StepAnswer) -> u16
 pub fn is_unspecified_next(state: State, mem: &[u16], lines: Lines) -> bool
     ensures { λ r. ⌜ r ≡ isUnspecified (stepOf state (now (mem .entry)) lines .answer) ⌝ }
 {
-    let registers = state.registers;
-    let before = state.status;
     let long = memory::is_too_long(mem);
     if long {
         return false;
     }
+    let before = state.status;
     let halted = before.halted;
     if halted {
         return false;
     }
-    let status = noted(before, lines);
-    let granted = status.ready & !lines.busrq;
-    if granted {
-        return false;
-    }
-    let interrupted = status.ready & (status.i & status.pending);
-    if interrupted {
-        return false;
-    }
-    let pc = registers[7];
-    let decoded = decode::decode_at(mem, pc, status.d);
-    match decoded {
-        Decoded::Unspecified => true,
-        Decoded::Known(_) => false,
+    let registers = state.registers;
+    let status = requests::noted(before, lines);
+    let kind = requests::kind_of(status, lines);
+    match kind {
+        Kind::Grant => false,
+        Kind::Interrupt => false,
+        Kind::Instruction => {
+            let decoded = decode::decode_at(mem, registers[7], status.d);
+            match decoded {
+                Decoded::Unspecified => true,
+                Decoded::Known(_) => false,
+            }
+        }
     }
 }

@@ -16,7 +16,7 @@ use Rattle.cpu.specs.Control.{withCarry, controlOf}
 use Rattle.cpu.specs.Single.{gswdOf, singleResult, singleOf}
 use Rattle.cpu.specs.Branch.{conditionOf, takenOf, targetOf, branchedOf, branchOf}
 use Rattle.cpu.specs.Store.{storeAddress, storeValue, storePointer, storeOf}
-use Rattle.cpu.specs.Step.{granted, executed, effectAt, boundary, actionOf, stepOf}
+use Rattle.cpu.specs.Step.{granted, executed, effectAt, instructionAt, kindOf, actionOf, stepOf}
 use Rattle.cpu.specs.Steps.{Moment, stepsFrom, cyclesOfAll}
 use Rattle.meter.specs.Walk.{limitOf, startAt, placeAfter, rowTurn, turnAt, walkBy, walkOn, walkFrom}
 use Rattle.meter.specs.Scan.{longerThan, lowerThan, longestBy, lowestBy}
@@ -74,7 +74,7 @@ unstored st m limit h = kept-unstored (stepsFrom st m requests) (readsFrom (peek
 
 -- the three walks have two instructions each, and only the first is followed by another
 pub not-empty : NotEmpty
-unfolding wrapAdd wrapSub peekOf pokeOf lowInstruction instructionOf unspecifiedOf decodeAt heardRow unheardRow controlRow branchRow savedOf memoryWords storeRow registerOf operandOf notedOf heldOf goesTo writesTo registersAfter statusAfter withCarry controlOf gswdOf singleResult singleOf conditionOf takenOf targetOf branchedOf branchOf storeAddress storeValue storePointer storeOf granted executed effectAt boundary actionOf stepOf stepsFrom limitOf startAt placeAfter rowTurn turnAt walkBy walkOn walkFrom longerThan lowerThan longestBy lowestBy waitOf namedOf regionOf grants beforeGrant cyclesOfAll wordsRead readsBy readsOn readsFrom
+unfolding wrapAdd wrapSub peekOf pokeOf lowInstruction instructionOf unspecifiedOf decodeAt heardRow unheardRow controlRow branchRow savedOf memoryWords storeRow registerOf operandOf notedOf heldOf goesTo writesTo registersAfter statusAfter withCarry controlOf gswdOf singleResult singleOf conditionOf takenOf targetOf branchedOf branchOf storeAddress storeValue storePointer storeOf granted executed effectAt instructionAt kindOf actionOf stepOf stepsFrom limitOf startAt placeAfter rowTurn turnAt walkBy walkOn walkFrom longerThan lowerThan longestBy lowestBy waitOf namedOf regionOf grants beforeGrant cyclesOfAll wordsRead readsBy readsOn readsFrom
 not-empty =
     record {
       store =

@@ -7,6 +7,7 @@ ghost use Rattle.run.specs.Run.{causeOf, refusedRun, runOutcome, runOf};
 ghost use Rattle.run.specs.inner.Loop.{stoppedOf, loopEnd, loopOf};
 use cpu::Lines;
 use cpu::State;
+use cpu::Status;
 use cpu::StepAnswer;
 use cpu::Stepped;
 use refusal::Refusal;
@@ -52,6 +53,30 @@ fn stopped(last: Stepped, steps: u32, cycles: u32) -> Stop
 
 const BUDGET_LIMIT: u32 = 1000000;
 
+// The same state. A mark that comes from memory may be any byte to the compiler; copied as a `bool` it is 0 or 1 all through the
+// loop.
+fn copied(state: State) -> State
+    ensures { λ r. ⌜ r ≡ state ⌝ }
+{
+    let status = state.status;
+    let registers = state.registers;
+    State {
+        registers: registers,
+        status: Status {
+            halted: status.halted,
+            s: status.s,
+            z: status.z,
+            o: status.o,
+            c: status.c,
+            i: status.i,
+            d: status.d,
+            ready: status.ready,
+            level: status.level,
+            pending: status.pending,
+        },
+    }
+}
+
 // Steps while the sum of their cycles is below the budget and none is refused. It is the only caller of the processor's step, so
 // that the compiler makes one function of both.
 fn make_steps(state: State, mem: &mut [u16], lines: Lines, budget: u32) -> Stop
@@ -59,7 +84,7 @@ fn make_steps(state: State, mem: &mut [u16], lines: Lines, budget: u32) -> Stop
     ensures { λ r. ⌜ loopEnd r (now (mem .exit)) ≡ loopOf state (now (mem .entry)) lines budget ⌝ }
 {
     let mut last = Stepped {
-        state: state,
+        state: copied(state),
         answer: StepAnswer::Granted(0),
     };
     let mut steps: u32 = 0;

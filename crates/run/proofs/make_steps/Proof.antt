@@ -22,14 +22,14 @@ loop-holds c = record { same = refl; few = omega arith; size = refl }
 returns : tie.Need-returns Inv-loop μ-loop
 unfolding loopOf
 returns c =
-    rw (c .stopped .ensures)
+    rw (c .stopped .ensures, ← c .before .before .before .before .before .before .before .before .before .before .copied .ensures)
     (loop-refused (c .before .before .before .before .before .before .before .before .before .loop .inv) (c .before .before .before .before .before .step .result) (c .before .before .before .before .before .step .ensures) (c .before .before .before .before .before .before .before .before .loop-test .taken) (c .before .before .cycles .ensures) (c .before .if1 .taken))
 
 add-cycles : tie.Need-add-cycles Inv-loop μ-loop
-add-cycles c = omega (arith, c .before .before .before .before .before .before .before .before .before .before .pre, c .before .before .before .before .before .before .before .loop-test .taken, c .before .cycles .ok)
+add-cycles c = omega (arith, c .before .before .before .before .before .before .before .before .before .before .before .pre, c .before .before .before .before .before .before .before .loop-test .taken, c .before .cycles .ok)
 
 add-steps : tie.Need-add-steps Inv-loop μ-loop
-add-steps c = omega (arith, c .before .before .before .before .before .before .before .before .before .before .pre, c .before .before .before .before .before .before .before .loop-test .taken, c .before .before .before .before .before .before .before .before .loop .inv .few)
+add-steps c = omega (arith, c .before .before .before .before .before .before .before .before .before .before .before .pre, c .before .before .before .before .before .before .before .loop-test .taken, c .before .before .before .before .before .before .before .before .loop .inv .few)
 
 loop-less : tie.Need-loop-less Inv-loop μ-loop
 loop-less c = omega (arith, c .before .before .before .before .before .before .before .loop-test .taken, c .if1 .left)
@@ -40,7 +40,7 @@ loop-again c =
 
 returns-2 : tie.Need-returns-2 Inv-loop μ-loop
 unfolding loopOf
-returns-2 c = rw (c .stopped2 .ensures) (loop-spent (c .before .before .loop .inv) (c .before .loop-test .left))
+returns-2 c = rw (c .stopped2 .ensures, ← c .before .before .before .copied .ensures) (loop-spent (c .before .before .loop .inv) (c .before .loop-test .left))
 
 pub make-steps-spec : {M : Type 1} → statement M
 make-steps-spec =
@@ -48,6 +48,7 @@ make-steps-spec =
     (tie.spec
     Inv-loop
     μ-loop
+    (λ c κs. search needs)
     loop-holds
     (λ c κs. search needs)
     (λ c κs. search needs)

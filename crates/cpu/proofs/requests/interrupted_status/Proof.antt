@@ -1,7 +1,7 @@
 use mathlib.Core.Path.{refl}
 use Rattle.cpu.specs.State.{interruptedStatus}
-use Rattle.cpu.proofs.interrupted_status.Statement.{statement}
-use Rattle.cpu.proofs.interrupted_status.Tie as tie
+use Rattle.cpu.proofs.requests.interrupted_status.Statement.{statement}
+use Rattle.cpu.proofs.requests.interrupted_status.Tie as tie
 
 returns : tie.Need-returns
 unfolding interruptedStatus

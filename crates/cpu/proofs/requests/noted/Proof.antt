@@ -1,7 +1,7 @@
 use mathlib.Core.Path.{refl}
 use Rattle.cpu.specs.State.{notedOf}
-use Rattle.cpu.proofs.noted.Statement.{statement}
-use Rattle.cpu.proofs.noted.Tie as tie
+use Rattle.cpu.proofs.requests.noted.Statement.{statement}
+use Rattle.cpu.proofs.requests.noted.Tie as tie
 
 returns : tie.Need-returns
 unfolding notedOf

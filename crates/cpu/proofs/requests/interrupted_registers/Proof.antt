@@ -1,7 +1,7 @@
 use Rattle.cpu.specs.State.{interruptedRegisters}
 use borrow.Author.Needs.{needs}
-use Rattle.cpu.proofs.interrupted_registers.Statement.{statement}
-use Rattle.cpu.proofs.interrupted_registers.Tie as tie
+use Rattle.cpu.proofs.requests.interrupted_registers.Statement.{statement}
+use Rattle.cpu.proofs.requests.interrupted_registers.Tie as tie
 
 returns : tie.Need-returns
 unfolding interruptedRegisters
