@@ -7,6 +7,7 @@ use native.Mathlib.Decide.{decLt}
 use native.Mathlib.Omega.{arith}
 use lib.ListN.{length, getD, drop, drop-of-length-le, List·getD-eq-default}
 use lib.Seq.{drop-cons}
+use borrow.Author.Tests.{lt-ltb}
 use Rattle.listing.specs.declared.line.Line.{Line}
 use Rattle.listing.specs.Assemble.{takenOf, readIn}
 
@@ -14,6 +15,11 @@ use Rattle.listing.specs.Assemble.{takenOf, readIn}
 point : (l : Line) (c : ℕ) → takenOf l 46 c ≡ l
 unfolding takenOf
 point l c = refl
+
+-- and so every literal
+pub literal : (l : Line) (h c : ℕ) → h < 97 → takenOf l h c ≡ l
+unfolding takenOf
+literal l h c p = rw (lt-ltb _ _ p)
 
 -- a turn of a loop that reads, and its ends
 pub read-step : (t text : List ℕ) (l : Line) (i : ℕ) → i < length text

@@ -30,14 +30,11 @@ fn sign_value(byte: u8) -> u16
     if backward { 4 } else { 0 }
 }
 
-// The line with what stands at the place of a symbol.
+// The line with what stands at the place of a letter.
 fn taken(line: Line, symbol: u8, byte: u8) -> Line
+    requires { ⌜ 97 ≤ symbol ⌝ }
     ensures { λ r. ⌜ r ≡ takenOf line symbol byte ⌝ }
 {
-    let literal = symbol < b'a';
-    if literal {
-        return line;
-    }
     match symbol {
         b's' => line_with(line.row, value(byte), line.d, line.operand),
         b'd' => line_with(line.row, line.s, value(byte), line.operand),
@@ -62,7 +59,10 @@ pub(crate) fn read(text: &[u8], row: usize, template: &[u8; 14]) -> Line
         if text.len() <= i {
             return line;
         }
-        line = taken(line, template[i], text[i]);
+        let symbol = template[i];
+        if b'a' <= symbol {
+            line = taken(line, symbol, text[i]);
+        }
         i += 1;
     }
     line

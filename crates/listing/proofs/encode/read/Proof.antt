@@ -2,12 +2,13 @@
 use borrow.Author.Needs.{needs}
 use Prim.Native.Nat.{_-_, _≤_}
 use mathlib.Core.Path.{_≡_, sym, _∙_}
+use mathlib.Core.Logic.{⊎-elim}
 use native.Mathlib.Omega.{arith}
 use lib.ListN.{getD, drop}
 use Rattle.listing.specs.Rows.{templateOf}
-use Rattle.listing.specs.Assemble.{readIn, readOf}
+use Rattle.listing.specs.Assemble.{takenOf, readIn, readOf}
 use Rattle.listing.proofs.Table.{template-most, padded-at}
-use Rattle.listing.proofs.Reading.{read-step, read-out, read-end}
+use Rattle.listing.proofs.Reading.{literal, read-step, read-out, read-end}
 use Rattle.listing.proofs.encode.read.Statement.{statement}
 use Rattle.listing.proofs.encode.read.Tie as tie
 
@@ -30,14 +31,16 @@ returns c =
 
 loop-again : tie.Need-loop-again Inv-loop μ-loop
 loop-again c =
-    let a = c .before .before .before .before .before .before .before .before .args in
-    let p = c .before .before .before .before .before .before .before .before .pre in
-    let v = c .before .before .before .before .before .loop in
+    let a = c .before .before .before .before .before .before .before .args in
+    let p = c .before .before .before .before .before .before .before .pre in
+    let v = c .before .before .before .before .loop in
     let symbol : getD (a .template .now) (v .i) 0 ≡ getD (templateOf (a .row)) (v .i) 46 =
-    rw (p .0) (padded-at (a .row) (v .i) (c .before .before .before .before .loop-test .taken)) in (
+    rw (p .0) (padded-at (a .row) (v .i) (c .before .before .before .loop-test .taken)) in
+    let line : c .if2 .line ≡ takenOf (v .line) (getD (a .template .now) (v .i) 0) (getD (a .text .now) (v .i) 0) =
+    ⊎-elim (λ w. w .3 ∙ w .2 .ensures) (λ w. w .1 ∙ sym (literal (v .line) _ _ (w .0 .left))) (c .if2 .came) in (
       search needs,
-      rw (c .taken .ensures, symbol)
-          (sym (read-step (templateOf (a .row)) (a .text .now) (v .line) (v .i) (c .before .before .before .if1 .left)) ∙ v .inv .1),
+      rw (line, symbol)
+          (sym (read-step (templateOf (a .row)) (a .text .now) (v .line) (v .i) (c .before .before .if1 .left)) ∙ v .inv .1),
     )
 
 returns-2 : tie.Need-returns-2 Inv-loop μ-loop
