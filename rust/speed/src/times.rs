@@ -5,7 +5,7 @@ use crate::table::{print_head, print_row};
 use crate::workloads::{WORKLOADS, Workload};
 
 /// Odd, so that one round is the middle one.
-const ROUNDS: usize = 51;
+const ROUNDS: usize = 101;
 
 /// The times of a workload's units with either kit, in ns, one of each a round.
 #[derive(Default)]
