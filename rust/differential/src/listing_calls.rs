@@ -1,6 +1,5 @@
 //! The lister, and the assembler on its lines and on damaged ones.
 
-use crate::machine_calls::any_out;
 use crate::random::Random;
 use crate::reference;
 use crate::scene::Scene;
@@ -26,7 +25,7 @@ fn any_d(random: &mut Random) -> u8 {
 
 pub(crate) fn list(random: &mut Random, scene: &mut Scene, tally: &mut Tally) {
     let (address, d) = (scene.address(random), any_d(random));
-    let (mut text, mut out) = (any_out(random, TEXT_ROOM), any_out(random, LIST_WORDS));
+    let (mut text, mut out) = (Twin::room(random, TEXT_ROOM), Twin::room(random, LIST_WORDS));
     let ours = calls::list(scene.memory.ours(), address, d, text.ours(), out.ours());
     let theirs = reference::list(scene.memory.theirs(), address, d, text.theirs(), out.theirs());
     let word = scene.word_at(address);
@@ -41,9 +40,19 @@ pub(crate) fn list(random: &mut Random, scene: &mut Scene, tally: &mut Tally) {
     }
 }
 
+/// Words of an instruction. Jumps and branches, which have many forms and few opcodes, are met more often than by chance.
+fn any_words(random: &mut Random) -> [u16; LINE_WORDS] {
+    let first = match random.below(4) {
+        0 => 0x004,
+        1 => 0x200 + random.below(0x40) as u16,
+        _ => random.word(),
+    };
+    [first, random.word(), random.word()]
+}
+
 /// The line of random words, as the hand-written lister has it.
 fn any_listed(random: &mut Random) -> Vec<u8> {
-    let words: [u16; LINE_WORDS] = std::array::from_fn(|_| random.word());
+    let words = any_words(random);
     let mut text = vec![0; TEXT_ROOM];
     let listed =
         handwritten::list(&words, 0, random.one_in(2), &mut text).expect("memory and room are as they have to be");
@@ -51,16 +60,18 @@ fn any_listed(random: &mut Random) -> Vec<u8> {
     text
 }
 
+/// A byte more, fewer bytes, a byte less, or another byte in the place of one: any, one that stands in lines, or its neighbour.
 fn damage(random: &mut Random, line: &mut Vec<u8>) {
-    let at = random.size_below(line.len() + 1);
+    let at = random.size_below(line.len());
     let byte = random.pick(BYTES);
-    match random.below(5) {
+    match random.below(7) {
         0 => line.insert(at, byte),
-        1 => line.truncate(at),
-        2 if at < line.len() => _ = line.remove(at),
-        3 if at < line.len() => line[at] = random.byte(),
-        _ if at < line.len() => line[at] = byte,
-        _ => line.push(byte),
+        1 => line.push(byte),
+        2 => line.truncate(at),
+        3 => _ = line.remove(at),
+        4 => line[at] = random.byte(),
+        5 => line[at] = byte,
+        _ => line[at] = line[at].wrapping_add(random.pick(&[1, u8::MAX])),
     }
 }
 
@@ -83,7 +94,7 @@ fn any_line(random: &mut Random) -> Vec<u8> {
 
 pub(crate) fn assemble(random: &mut Random, _: &mut Scene, tally: &mut Tally) {
     let (line, d) = (any_line(random), any_d(random));
-    let (mut line, mut words) = (Twin::of(random, &line), any_out(random, LINE_WORDS));
+    let (mut line, mut words) = (Twin::of(random, &line), Twin::room(random, LINE_WORDS));
     let ours = calls::assemble(line.ours(), d, words.ours());
     let theirs = reference::assemble(line.theirs(), d, words.theirs());
     let call = format!("assemble of {:?} under D {d}", String::from_utf8_lossy(line.items()));

@@ -4,28 +4,17 @@ use crate::random::Random;
 use crate::reference;
 use crate::scene::Scene;
 use crate::tally::Tally;
-use crate::twin::{Item, Twin};
+use crate::twin::{Twin, any_length};
 use cp1610::calls;
 use kit::{HIGHEST_BUDGET, STATE_WORDS};
 
 const RUN_WORDS: usize = 3;
 const R7: usize = 7;
 
-/// A length at which a buffer is taken, at or past the least; now and then one at which it is refused.
-pub(crate) fn any_room(random: &mut Random, least: usize) -> usize {
-    if random.one_in(32) { random.size_below(least) } else { least + random.size_below(4) }
-}
-
-/// A buffer for answers, of which the call needs the first `least` items.
-pub(crate) fn any_out<T: Item>(random: &mut Random, least: usize) -> Twin<T> {
-    let room = any_room(random, least);
-    Twin::any(random, room)
-}
-
 /// The scene's machine, in a buffer that may be longer than a state, or shorter.
 fn lent_state(random: &mut Random, scene: &Scene) -> Twin<u16> {
     let mut words = scene.state.to_vec();
-    words.resize_with(any_room(random, STATE_WORDS), || random.word());
+    words.resize_with(any_length(random, STATE_WORDS), || random.word());
     Twin::of(random, &words)
 }
 
@@ -86,7 +75,7 @@ pub(crate) fn step(random: &mut Random, scene: &mut Scene, tally: &mut Tally) {
 
 pub(crate) fn run(random: &mut Random, scene: &mut Scene, tally: &mut Tally) {
     let mut state = lent_state(random, scene);
-    let mut out = any_out(random, RUN_WORDS);
+    let mut out = Twin::room(random, RUN_WORDS);
     let (lines, budget) = (any_lines(random), any_budget(random));
     let ours = calls::run(state.ours(), scene.memory.ours(), lines, budget, out.ours());
     let theirs = reference::run(state.theirs(), scene.memory.theirs(), lines, budget, out.theirs());

@@ -1,10 +1,10 @@
 //! The wait meter, of an address and of a region.
 
-use crate::machine_calls::any_out;
 use crate::random::Random;
 use crate::reference;
 use crate::scene::Scene;
 use crate::tally::Tally;
+use crate::twin::Twin;
 use cp1610::calls;
 use kit::HIGHEST_LIMIT;
 
@@ -46,7 +46,7 @@ fn any_region(random: &mut Random, scene: &Scene) -> (u16, u16, u16) {
 
 pub(crate) fn region(random: &mut Random, scene: &mut Scene, tally: &mut Tally) {
     let (first, last, limit) = any_region(random, scene);
-    let mut out = any_out(random, REGION_WORDS);
+    let mut out = Twin::room(random, REGION_WORDS);
     let ours = calls::region(scene.memory.ours(), first, last, limit, out.ours());
     let theirs = reference::region(scene.memory.theirs(), first, last, limit, out.theirs());
     let call = format!("region {first:04X}..{last:04X} with limit {limit}");

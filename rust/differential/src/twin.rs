@@ -35,6 +35,11 @@ impl Item for u32 {
     }
 }
 
+/// A length at which a call takes a buffer, the least or more; now and then one at which it does not.
+pub fn any_length(random: &mut Random, least: usize) -> usize {
+    if random.one_in(32) { random.size_below(least) } else { least + random.size_below(4) }
+}
+
 impl<T: Item> Twin<T> {
     pub fn of(random: &mut Random, items: &[T]) -> Twin<T> {
         let mut guard = || (0..GUARD).map(|_| T::of(random.any())).collect::<Vec<T>>();
@@ -46,6 +51,12 @@ impl<T: Item> Twin<T> {
     pub fn any(random: &mut Random, length: usize) -> Twin<T> {
         let items: Vec<T> = (0..length).map(|_| T::of(random.any())).collect();
         Twin::of(random, &items)
+    }
+
+    /// A buffer for an answer, of which the call needs the first `least` items.
+    pub fn room(random: &mut Random, least: usize) -> Twin<T> {
+        let length = any_length(random, least);
+        Twin::any(random, length)
     }
 
     pub fn len(&self) -> usize {
