@@ -3,8 +3,8 @@
 use crate::machine::Machine;
 use crate::memory::{joined, peek, poke};
 use crate::opcode::{
-    DIRECT, IMMEDIATE, JUMP, NOT_TAKEN, OPCODES, R6, R7, SDBD, STACK, bit, destination, is_read, is_unspecified,
-    opcode_at, row, source,
+    CLRC, DIRECT, DIS, EIS, IMMEDIATE, JUMP, NOT_TAKEN, OPCODES, R6, R7, SDBD, SETC, STACK, bit, destination, is_read,
+    is_unspecified, opcode_at, row, source,
 };
 
 /// The board as a row sees it. It goes by reference, so that a call passes two pointers.
@@ -95,11 +95,11 @@ impl Machine {
     #[inline(always)]
     fn control(&mut self, memory: &[u16], at: u16, w: u16) {
         match w {
-            2 => self.i = true,
-            3 => self.i = false,
+            EIS => self.i = true,
+            DIS => self.i = false,
             JUMP => self.jump(memory, at),
-            6 => self.c = false,
-            7 => self.c = true,
+            CLRC => self.c = false,
+            SETC => self.c = true,
             _ => {}
         }
     }

@@ -7,7 +7,11 @@ pub(crate) const OPCODES: usize = 1_024;
 
 pub(crate) const HLT: u16 = 0x000;
 pub(crate) const SDBD: u16 = 0x001;
+pub(crate) const EIS: u16 = 0x002;
+pub(crate) const DIS: u16 = 0x003;
 pub(crate) const JUMP: u16 = 0x004;
+pub(crate) const CLRC: u16 = 0x006;
+pub(crate) const SETC: u16 = 0x007;
 
 /// The addressing modes that s names in a memory row; 1 to 5 go through that register.
 pub(crate) const DIRECT: usize = 0;

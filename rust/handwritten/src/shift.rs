@@ -7,7 +7,7 @@ const LEFT_SIGN: u32 = 15;
 const RIGHT_SIGN: u32 = 7;
 
 impl Machine {
-    /// 040 to 07F: "R0-R3 by bits 1-0; bit 2 set means by two."
+    /// 040 to 07F, SWAP SLL RLC SLLC SLR SAR RRC SARC: "R0-R3 by bits 1-0; bit 2 set means by two."
     #[inline(always)]
     pub(crate) fn shift(&mut self, w: u16) {
         let n = usize::from(w & 3);
