@@ -36,7 +36,8 @@ enum cp1610_lines { CP1610_INTRM_HIGH = 1, CP1610_BUSRQ_HIGH = 2 };
 enum cp1610_kind { CP1610_DONE = 1, CP1610_GRANTED = 3, CP1610_INTERRUPTED = 4, CP1610_EXECUTED = 5 };
 enum cp1610_wait_kind { CP1610_WAITS = 1, CP1610_OVER = 2, CP1610_MEETS_HALT = 3, CP1610_MEETS_UNSPECIFIED = 4 };
 
-/* The refusals: document 01's numbers, and 255 for a buffer that is too short. A refused call alters nothing. */
+/* The refusals: document 01's numbers 1 to 13, and 255, which is this interface's own and none of document 01's: a `state`, `out` or
+ * `words` that is shorter than the call needs, tested before all else. A refused call alters nothing. */
 enum cp1610_refusal {
     CP1610_MEMORY_TOO_LONG = 1,
     CP1610_IS_HALTED = 2,
@@ -77,7 +78,7 @@ static inline int cp1610_is_refused(uint64_t answer) { return answer >> 32 == 0;
 static inline uint32_t cp1610_kind_of(uint64_t answer) { return (uint32_t)(answer >> 32); }
 static inline uint32_t cp1610_value_of(uint64_t answer) { return (uint32_t)answer; }
 
-/* The reset state, over the first 18 words. Kind 1. */
+/* The reset state, over the first 18 words. Kind 1. Refused by 255 only. */
 uint64_t cp1610_reset(uint16_t *state, size_t state_length);
 
 /* One step. Kind 3 the bus was granted, 4 an interrupt was entered, 5 an instruction was executed; the value is the cycles.

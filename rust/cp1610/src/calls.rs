@@ -1,0 +1,137 @@
+//! The C interface as it is (`include/cp1610.h`), with slices in place of pointers and lengths. All `unsafe` code of the wrapper
+//! stands here. A program wants [`Machine`](crate::Machine) and the functions beside it; these are for one that has its own
+//! state of words, or that tests the interface.
+
+unsafe extern "C" {
+    fn cp1610_reset(state: *mut u16, state_length: usize) -> u64;
+    fn cp1610_step(state: *mut u16, state_length: usize, mem: *mut u16, mem_length: usize, lines: u32) -> u64;
+    fn cp1610_run(
+        state: *mut u16,
+        state_length: usize,
+        mem: *mut u16,
+        mem_length: usize,
+        lines: u32,
+        budget: u32,
+        out: *mut u32,
+        out_length: usize,
+    ) -> u64;
+    fn cp1610_wait(mem: *const u16, mem_length: usize, address: u16, limit: u16) -> u64;
+    fn cp1610_region(
+        mem: *const u16,
+        mem_length: usize,
+        first: u16,
+        last: u16,
+        limit: u16,
+        out: *mut u32,
+        out_length: usize,
+    ) -> u64;
+    fn cp1610_list(
+        mem: *const u16,
+        mem_length: usize,
+        address: u16,
+        d: u8,
+        text: *mut u8,
+        text_length: usize,
+        out: *mut u32,
+        out_length: usize,
+    ) -> u64;
+    fn cp1610_assemble(line: *const u8, line_length: usize, d: u8, words: *mut u16, words_length: usize) -> u64;
+    fn cp1610_load(board: u16, mem: *mut u16, mem_length: usize, file: *const u8, file_length: usize) -> u64;
+    fn cp1610_write(
+        board: u16,
+        mem: *const u16,
+        mem_length: usize,
+        first: u16,
+        last: u16,
+        room: *mut u8,
+        room_length: usize,
+    ) -> u64;
+}
+
+// SAFETY, for every call below: the library's functions are total as long as each pointer is valid for its length and no buffer
+// that is written overlaps another. A slice's pointer is valid for its length, and a `&mut` overlaps nothing.
+
+/// `cp1610_reset`.
+#[inline]
+pub fn reset(state: &mut [u16]) -> u64 {
+    // SAFETY: as above.
+    unsafe { cp1610_reset(state.as_mut_ptr(), state.len()) }
+}
+
+/// `cp1610_step`.
+#[inline]
+pub fn step(state: &mut [u16], memory: &mut [u16], lines: u32) -> u64 {
+    // SAFETY: as above.
+    unsafe { cp1610_step(state.as_mut_ptr(), state.len(), memory.as_mut_ptr(), memory.len(), lines) }
+}
+
+/// `cp1610_run`.
+#[inline]
+pub fn run(state: &mut [u16], memory: &mut [u16], lines: u32, budget: u32, out: &mut [u32]) -> u64 {
+    // SAFETY: as above.
+    unsafe {
+        cp1610_run(
+            state.as_mut_ptr(),
+            state.len(),
+            memory.as_mut_ptr(),
+            memory.len(),
+            lines,
+            budget,
+            out.as_mut_ptr(),
+            out.len(),
+        )
+    }
+}
+
+/// `cp1610_wait`.
+#[inline]
+pub fn wait(memory: &[u16], address: u16, limit: u16) -> u64 {
+    // SAFETY: as above.
+    unsafe { cp1610_wait(memory.as_ptr(), memory.len(), address, limit) }
+}
+
+/// `cp1610_region`.
+#[inline]
+pub fn region(memory: &[u16], first: u16, last: u16, limit: u16, out: &mut [u32]) -> u64 {
+    // SAFETY: as above.
+    unsafe { cp1610_region(memory.as_ptr(), memory.len(), first, last, limit, out.as_mut_ptr(), out.len()) }
+}
+
+/// `cp1610_list`.
+#[inline]
+pub fn list(memory: &[u16], address: u16, d: u8, text: &mut [u8], out: &mut [u32]) -> u64 {
+    // SAFETY: as above.
+    unsafe {
+        cp1610_list(
+            memory.as_ptr(),
+            memory.len(),
+            address,
+            d,
+            text.as_mut_ptr(),
+            text.len(),
+            out.as_mut_ptr(),
+            out.len(),
+        )
+    }
+}
+
+/// `cp1610_assemble`.
+#[inline]
+pub fn assemble(line: &[u8], d: u8, words: &mut [u16]) -> u64 {
+    // SAFETY: as above.
+    unsafe { cp1610_assemble(line.as_ptr(), line.len(), d, words.as_mut_ptr(), words.len()) }
+}
+
+/// `cp1610_load`.
+#[inline]
+pub fn load(board: u16, memory: &mut [u16], file: &[u8]) -> u64 {
+    // SAFETY: as above.
+    unsafe { cp1610_load(board, memory.as_mut_ptr(), memory.len(), file.as_ptr(), file.len()) }
+}
+
+/// `cp1610_write`.
+#[inline]
+pub fn write(board: u16, memory: &[u16], first: u16, last: u16, room: &mut [u8]) -> u64 {
+    // SAFETY: as above.
+    unsafe { cp1610_write(board, memory.as_ptr(), memory.len(), first, last, room.as_mut_ptr(), room.len()) }
+}

@@ -1,0 +1,138 @@
+//! The loader, on good image files and on damaged ones, and the writer.
+
+use crate::random::Random;
+use crate::reference;
+use crate::scene::Scene;
+use crate::tally::Tally;
+use crate::twin::Twin;
+use cp1610::calls;
+use kit::RECORD_WORDS;
+
+/// An image file in the making, and its sum.
+struct File {
+    bytes: Vec<u8>,
+    sum: u16,
+}
+
+impl File {
+    fn mark(&mut self, mark: &[u8; 2]) {
+        self.bytes.extend_from_slice(mark);
+    }
+
+    fn number(&mut self, number: u16) {
+        self.bytes.extend_from_slice(&number.to_be_bytes());
+        self.sum = self.sum.wrapping_add(number);
+    }
+
+    /// A record of so many random words, which says that it has `count`.
+    fn record(&mut self, random: &mut Random, address: u16, count: u16, words: usize) {
+        self.mark(b"AT");
+        self.number(address);
+        self.number(count);
+        for _ in 0..words {
+            self.number(random.word());
+        }
+    }
+}
+
+fn any_count(random: &mut Random) -> u16 {
+    let longest = RECORD_WORDS as u64;
+    match random.below(64) {
+        0 => 0,
+        1 => longest as u16,
+        2 => longest as u16 + 1,
+        3 => random.below(longest) as u16,
+        _ => 1 + random.below(4) as u16,
+    }
+}
+
+/// A file whose records mostly lie in a memory of this length, with a right sum.
+fn any_file(random: &mut Random, board: u16, length: usize) -> Vec<u8> {
+    let mut file = File { bytes: Vec::new(), sum: 0 };
+    file.mark(b"ID");
+    file.number(board);
+    for _ in 0..random.below(4) {
+        let count = any_count(random);
+        let space = (length + 1).saturating_sub(count.into()) as u64;
+        let address = if random.one_in(12) { random.word() } else { random.below(space.max(1)) as u16 };
+        file.record(random, address, count, count.into());
+    }
+    file.mark(b"OK");
+    let sum = file.sum;
+    file.number(sum);
+    file.bytes
+}
+
+fn damage(random: &mut Random, file: &mut Vec<u8>) {
+    let at = random.size_below(file.len());
+    match random.below(4) {
+        0 => file.truncate(at),
+        1 => file.push(random.byte()),
+        2 => file[at] = random.byte(),
+        _ => _ = file.remove(at),
+    }
+}
+
+/// A board's number; few, so that two are often equal.
+fn any_board(random: &mut Random) -> u16 {
+    random.below(4) as u16
+}
+
+pub(crate) fn load(random: &mut Random, scene: &mut Scene, tally: &mut Tally) {
+    let board = any_board(random);
+    let named = if random.one_in(8) { any_board(random) } else { board };
+    let mut file = any_file(random, named, scene.memory.len());
+    if random.one_in(2) {
+        damage(random, &mut file);
+    }
+    let mut file = Twin::of(random, &file);
+    let ours = calls::load(board, scene.memory.ours(), file.ours());
+    let theirs = reference::load(board, scene.memory.theirs(), file.theirs());
+    let call = format!("load for board {board} of {:02X?}", file.items());
+    assert_eq!(ours, theirs, "{call}");
+    scene.memory.assert_equal(&call, "memory");
+    file.assert_equal(&call, "file");
+    tally.count("load", ours, || match ours as u32 {
+        0 => "no records",
+        1 => "1 record",
+        _ => "records",
+    });
+}
+
+/// Regions in the memory, past it, and with the first address above the last.
+fn any_region(random: &mut Random, scene: &Scene) -> (u16, u16) {
+    let first = scene.address(random);
+    let last = match random.below(8) {
+        0 => scene.address(random),
+        1 => (scene.memory.len() as u16).wrapping_sub(1),
+        _ => first.saturating_add(random.below(8) as u16),
+    };
+    (first, last)
+}
+
+/// A room around the length that the file needs.
+fn any_file_room(random: &mut Random, first: u16, last: u16) -> usize {
+    let words = usize::from(last.saturating_sub(first)) + 1;
+    let length = 8 + 2 * words + 6 * words.div_ceil(RECORD_WORDS);
+    match random.below(8) {
+        0 => length - 1,
+        1 => random.size_below(length),
+        2 => length,
+        _ => length + random.size_below(8),
+    }
+}
+
+pub(crate) fn write(random: &mut Random, scene: &mut Scene, tally: &mut Tally) {
+    let (first, last) = any_region(random, scene);
+    let board = any_board(random);
+    let length = any_file_room(random, first, last);
+    let mut room = Twin::any(random, length);
+    let ours = calls::write(board, scene.memory.ours(), first, last, room.ours());
+    let theirs = reference::write(board, scene.memory.theirs(), first, last, room.theirs());
+    let call = format!("write of {first:04X}..{last:04X} into {length} bytes");
+    assert_eq!(ours, theirs, "{call}");
+    room.assert_equal(&call, "room");
+    scene.memory.assert_equal(&call, "memory");
+    let words = usize::from(last.saturating_sub(first)) + 1;
+    tally.count("write", ours, || if words <= RECORD_WORDS { "1 record" } else { "records" });
+}

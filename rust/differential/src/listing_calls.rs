@@ -1,0 +1,108 @@
+//! The lister, and the assembler on its lines and on damaged ones.
+
+use crate::random::Random;
+use crate::reference;
+use crate::scene::Scene;
+use crate::tally::Tally;
+use crate::twin::Twin;
+use cp1610::calls;
+use kit::{LINE_WORDS, TEXT_ROOM};
+
+const LIST_WORDS: usize = 3;
+const WORD_COUNTS: [&str; LINE_WORDS] = ["1 word", "2 words", "3 words"];
+
+/// What stands in lines, and some of what does not.
+const BYTES: &[u8] = b"0123456789ABCDEFGHIJLMNOPRSTUVWX@#$+-, \0\nabr\xA0";
+
+/// D as the C interface takes it: anything but 0 is set.
+fn any_d(random: &mut Random) -> u8 {
+    match random.below(4) {
+        0 | 1 => 0,
+        2 => 1,
+        _ => random.byte(),
+    }
+}
+
+pub(crate) fn list(random: &mut Random, scene: &mut Scene, tally: &mut Tally) {
+    let (address, d) = (scene.address(random), any_d(random));
+    let (mut text, mut out) = (Twin::room(random, TEXT_ROOM), Twin::room(random, LIST_WORDS));
+    let ours = calls::list(scene.memory.ours(), address, d, text.ours(), out.ours());
+    let theirs = reference::list(scene.memory.theirs(), address, d, text.theirs(), out.theirs());
+    let word = scene.word_at(address);
+    let call = format!("list of {word:04X} at {address:04X} under D {d}");
+    assert_eq!(ours, theirs, "{call}");
+    text.assert_equal(&call, "text");
+    out.assert_equal(&call, "out");
+    scene.memory.assert_equal(&call, "memory");
+    tally.count("list", ours, || WORD_COUNTS[out.items()[1] as usize - 1]);
+    if ours >> 32 != 0 {
+        tally.count_listed(word, d != 0);
+    }
+}
+
+/// Words of an instruction. Jumps and branches, which have many forms and few opcodes, are met more often than by chance.
+fn any_words(random: &mut Random) -> [u16; LINE_WORDS] {
+    let first = match random.below(4) {
+        0 => 0x004,
+        1 => 0x200 + random.below(0x40) as u16,
+        _ => random.word(),
+    };
+    [first, random.word(), random.word()]
+}
+
+/// The line of random words, as the hand-written lister has it.
+fn any_listed(random: &mut Random) -> Vec<u8> {
+    let words = any_words(random);
+    let mut text = vec![0; TEXT_ROOM];
+    let listed =
+        handwritten::list(&words, 0, random.one_in(2), &mut text).expect("memory and room are as they have to be");
+    text.truncate(listed.length);
+    text
+}
+
+/// A byte more, fewer bytes, a byte less, or another byte in the place of one: any, one that stands in lines, or its neighbour.
+fn damage(random: &mut Random, line: &mut Vec<u8>) {
+    let at = random.size_below(line.len());
+    let byte = random.pick(BYTES);
+    match random.below(7) {
+        0 => line.insert(at, byte),
+        1 => line.push(byte),
+        2 => line.truncate(at),
+        3 => _ = line.remove(at),
+        4 => line[at] = random.byte(),
+        5 => line[at] = byte,
+        _ => line[at] = line[at].wrapping_add(random.pick(&[1, u8::MAX])),
+    }
+}
+
+/// A lister's line, perhaps damaged; the name of one with the operands of another; or bytes at random.
+fn any_line(random: &mut Random) -> Vec<u8> {
+    let mut line = any_listed(random);
+    match random.below(8) {
+        0..=3 => {}
+        4..=5 => damage(random, &mut line),
+        6 => {
+            let other = any_listed(random);
+            let operands = other.iter().position(|byte| *byte == b' ').unwrap_or(other.len());
+            line.truncate(line.iter().position(|byte| *byte == b' ').unwrap_or(line.len()));
+            line.extend_from_slice(&other[operands..]);
+        }
+        _ => line = (0..random.below(24)).map(|_| random.pick(BYTES)).collect(),
+    }
+    line
+}
+
+pub(crate) fn assemble(random: &mut Random, _: &mut Scene, tally: &mut Tally) {
+    let (line, d) = (any_line(random), any_d(random));
+    let (mut line, mut words) = (Twin::of(random, &line), Twin::room(random, LINE_WORDS));
+    let ours = calls::assemble(line.ours(), d, words.ours());
+    let theirs = reference::assemble(line.theirs(), d, words.theirs());
+    let call = format!("assemble of {:?} under D {d}", String::from_utf8_lossy(line.items()));
+    assert_eq!(ours, theirs, "{call}");
+    words.assert_equal(&call, "words");
+    line.assert_equal(&call, "line");
+    tally.count("assemble", ours, || WORD_COUNTS[ours as u32 as usize - 1]);
+    if ours >> 32 != 0 {
+        tally.count_assembled(words.items()[0]);
+    }
+}

@@ -1,0 +1,91 @@
+//! Reset, steps and runs.
+
+use crate::random::Random;
+use crate::reference;
+use crate::scene::Scene;
+use crate::tally::Tally;
+use crate::twin::{Twin, any_length};
+use cp1610::calls;
+use kit::{HIGHEST_BUDGET, STATE_WORDS};
+
+const RUN_WORDS: usize = 3;
+const R7: usize = 7;
+
+/// The scene's machine, in a buffer that may be longer than a state, or shorter.
+fn lent_state(random: &mut Random, scene: &Scene) -> Twin<u16> {
+    let mut words = scene.state.to_vec();
+    words.resize_with(any_length(random, STATE_WORDS), || random.word());
+    Twin::of(random, &words)
+}
+
+/// BUSRQ and INTRM mostly high, so that instructions are met; the bits that are ignored are random.
+fn any_lines(random: &mut Random) -> u32 {
+    let mut lines = random.any() as u32;
+    if !random.one_in(3) {
+        lines |= 1;
+    }
+    if !random.one_in(4) {
+        lines |= 2;
+    }
+    lines
+}
+
+/// Mostly few cycles, so that many runs end near a halt or an unspecified form; some near the highest budget, on both sides.
+fn any_budget(random: &mut Random) -> u32 {
+    match random.below(512) {
+        0 => HIGHEST_BUDGET - random.below(3) as u32,
+        1..=8 => HIGHEST_BUDGET + 1,
+        9..=16 => (HIGHEST_BUDGET + 1).saturating_add(random.any() as u32),
+        17..=80 => random.below(5_000) as u32,
+        _ => random.below(60) as u32,
+    }
+}
+
+pub(crate) fn reset(random: &mut Random, scene: &mut Scene, tally: &mut Tally) {
+    let mut state = lent_state(random, scene);
+    let ours = calls::reset(state.ours());
+    let theirs = reference::reset(state.theirs());
+    assert_eq!(ours, theirs, "reset of {} words", state.len());
+    state.assert_equal("reset", "state");
+    tally.count("reset", ours, || "done");
+}
+
+pub(crate) fn step(random: &mut Random, scene: &mut Scene, tally: &mut Tally) {
+    let mut state = lent_state(random, scene);
+    let lines = any_lines(random);
+    let word = scene.word_at(scene.state[R7]);
+    let ours = calls::step(state.ours(), scene.memory.ours(), lines);
+    let theirs = reference::step(state.theirs(), scene.memory.theirs(), lines);
+    let call = format!("step of {word:04X} from {:04X?} with lines {lines:08X}", scene.state);
+    assert_eq!(ours, theirs, "{call}");
+    state.assert_equal(&call, "state");
+    scene.memory.assert_equal(&call, "memory");
+    tally.count("step", ours, || match ours >> 32 {
+        3 => "grant",
+        4 => "interrupt",
+        _ => "instruction",
+    });
+    if ours >> 32 == 5 {
+        tally.count_executed(word);
+    }
+    if state.len() >= STATE_WORDS {
+        scene.continue_from(random, state.items());
+    }
+}
+
+pub(crate) fn run(random: &mut Random, scene: &mut Scene, tally: &mut Tally) {
+    let mut state = lent_state(random, scene);
+    let mut out = Twin::room(random, RUN_WORDS);
+    let (lines, budget) = (any_lines(random), any_budget(random));
+    let ours = calls::run(state.ours(), scene.memory.ours(), lines, budget, out.ours());
+    let theirs = reference::run(state.theirs(), scene.memory.theirs(), lines, budget, out.theirs());
+    let call = format!("run of {budget} cycles from {:04X?} with lines {lines:08X}", scene.state);
+    assert_eq!(ours, theirs, "{call}");
+    out.assert_equal(&call, "out");
+    state.assert_equal(&call, "state");
+    scene.memory.assert_equal(&call, "memory");
+    tally.count("run", ours, || ["halted", "unspecified", "budget"][out.items()[2] as usize]);
+    if state.len() >= STATE_WORDS {
+        scene.continue_from(random, state.items());
+    }
+}

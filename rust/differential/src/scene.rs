@@ -1,0 +1,97 @@
+//! A memory and a machine that a number of calls are made on.
+
+use crate::random::Random;
+use crate::twin::Twin;
+use kit::{LONGEST_MEMORY, Mark, STATE_WORDS, StateWords};
+
+/// A memory for each kit, and the words of the machine on it.
+pub struct Scene {
+    pub memory: Twin<u16>,
+    pub state: StateWords,
+}
+
+impl Scene {
+    pub fn new(random: &mut Random) -> Scene {
+        let length = any_length(random);
+        let words = any_words(random, length);
+        Scene { memory: Twin::of(random, &words), state: any_state(random, length) }
+    }
+
+    /// An address in the memory or not far past it, now and then anywhere.
+    pub fn address(&self, random: &mut Random) -> u16 {
+        any_address(random, self.memory.len())
+    }
+
+    /// The word at an address, as a step reads it.
+    pub fn word_at(&self, at: u16) -> u16 {
+        self.memory.items().get(usize::from(at)).copied().unwrap_or(0xFFFF)
+    }
+
+    /// A machine goes on from where a call left it; now and then, and where it halted, it starts from anywhere.
+    pub fn continue_from(&mut self, random: &mut Random, state: &[u16]) {
+        let halted = state[Mark::Halted as usize] != 0;
+        if random.one_in(if halted { 2 } else { 12 }) {
+            self.state = any_state(random, self.memory.len());
+        } else {
+            self.state.copy_from_slice(&state[..STATE_WORDS]);
+        }
+    }
+}
+
+/// Mostly short, so that reads and stores pass the end; the longest ones are tried on both sides of the edge.
+fn any_length(random: &mut Random) -> usize {
+    match random.below(32) {
+        0 => LONGEST_MEMORY - 1,
+        1 | 2 => LONGEST_MEMORY,
+        3 => LONGEST_MEMORY + 1,
+        4..=6 => random.size_below(4),
+        7..=16 => random.size_below(64),
+        _ => random.size_below(2_048),
+    }
+}
+
+fn any_words(random: &mut Random, length: usize) -> Vec<u16> {
+    let only_opcodes = random.one_in(2);
+    let mask = if only_opcodes { 0x3FF } else { 0xFFFF };
+    let mut words: Vec<u16> = (0..length).map(|_| random.word() & mask).collect();
+    for _ in 0..random.size_below(1 + length.min(2_048) / 8) {
+        sow(random, &mut words);
+    }
+    words
+}
+
+/// Puts one of the things that chance alone makes too seldom somewhere: HLT, the unspecified forms, a row of unheard rows.
+fn sow(random: &mut Random, words: &mut [u16]) {
+    let at = random.size_below(words.len());
+    let sown: Vec<u16> = match random.below(4) {
+        0 => vec![0x000],
+        1 => vec![0x004, random.word() | 3],
+        2 => vec![0x001, 0x2B0 + 0x40 * random.below(6) as u16 + random.below(8) as u16],
+        _ => (0..random.below(30)).map(|_| random.pick(&[0x002, 0x003, 0x006, 0x040, 0x048, 0x279])).collect(),
+    };
+    for (place, word) in words[at..].iter_mut().zip(sown) {
+        *place = word;
+    }
+}
+
+fn any_address(random: &mut Random, length: usize) -> u16 {
+    match random.below(8) {
+        0 => random.word(),
+        1 => (random.below(5) as u16).wrapping_sub(2),
+        _ => random.below(length as u64 + 2) as u16,
+    }
+}
+
+/// Registers that mostly point into the memory; marks of 0, of 1 and of any other word.
+fn any_state(random: &mut Random, length: usize) -> StateWords {
+    let mut state: StateWords =
+        std::array::from_fn(|n| if n < 8 { any_address(random, length) } else { any_mark(random) });
+    if !random.one_in(64) {
+        state[Mark::Halted as usize] = 0;
+    }
+    state
+}
+
+fn any_mark(random: &mut Random) -> u16 {
+    if random.one_in(4) { random.word() } else { random.below(2) as u16 }
+}

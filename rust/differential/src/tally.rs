@@ -1,0 +1,133 @@
+//! What was met how often, so that a comparison can't pass by being empty.
+
+use std::collections::BTreeMap;
+use std::fmt;
+
+const OPCODES: usize = 1_024;
+
+/// What a call can answer: document 01's refusals in their order, and the kinds of a success.
+struct Answers {
+    call: &'static str,
+    refusals: &'static [u64],
+    kinds: &'static [&'static str],
+}
+
+/// All that each call can answer. 255 is the C interface's own refusal, of a short buffer.
+const ANSWERS: [Answers; 9] = [
+    Answers { call: "reset", refusals: &[255], kinds: &["done"] },
+    Answers { call: "step", refusals: &[255, 1, 2, 3], kinds: &["grant", "interrupt", "instruction"] },
+    Answers { call: "run", refusals: &[255, 1, 4, 2], kinds: &["halted", "unspecified", "budget"] },
+    Answers { call: "wait", refusals: &[1, 8], kinds: &["wait", "over", "halts", "unspecified"] },
+    Answers { call: "region", refusals: &[255, 1, 7, 8], kinds: &["wait", "over", "wait and over", "neither"] },
+    Answers { call: "list", refusals: &[255, 1, 5], kinds: &["1 word", "2 words", "3 words"] },
+    Answers { call: "assemble", refusals: &[255, 6], kinds: &["1 word", "2 words", "3 words"] },
+    Answers { call: "load", refusals: &[1, 9, 10, 11, 12], kinds: &["no records", "1 record", "records"] },
+    Answers { call: "write", refusals: &[1, 7, 11, 13], kinds: &["1 record", "records"] },
+];
+
+/// Lengths of memory that have to be met.
+const MEMORY_LENGTHS: [usize; 6] = [0, 1, 2, 65_535, 65_536, 65_537];
+
+#[derive(Clone, Copy, Debug, PartialEq, Eq, PartialOrd, Ord)]
+pub enum Answer {
+    Refused(u64),
+    Kind(&'static str),
+}
+
+/// How often each answer, opcode and length of memory was met.
+pub struct Tally {
+    answers: BTreeMap<(&'static str, Answer), u64>,
+    memories: BTreeMap<usize, u64>,
+    executed: [u64; OPCODES],
+    listed: [[u64; OPCODES]; 2],
+    assembled: [u64; OPCODES],
+}
+
+impl Default for Tally {
+    fn default() -> Tally {
+        Tally {
+            answers: BTreeMap::new(),
+            memories: BTreeMap::new(),
+            executed: [0; OPCODES],
+            listed: [[0; OPCODES]; 2],
+            assembled: [0; OPCODES],
+        }
+    }
+}
+
+impl Tally {
+    /// Counts an answer as the C interface gives it, a success under the name of its kind.
+    pub(crate) fn count(&mut self, call: &'static str, answer: u64, kind: impl FnOnce() -> &'static str) {
+        let met = if answer >> 32 == 0 { Answer::Refused(answer) } else { Answer::Kind(kind()) };
+        *self.answers.entry((call, met)).or_default() += 1;
+    }
+
+    pub(crate) fn count_memory(&mut self, length: usize) {
+        *self.memories.entry(length).or_default() += 1;
+    }
+
+    pub(crate) fn count_executed(&mut self, word: u16) {
+        self.executed[usize::from(word) % OPCODES] += 1;
+    }
+
+    pub(crate) fn count_listed(&mut self, word: u16, d: bool) {
+        self.listed[usize::from(d)][usize::from(word) % OPCODES] += 1;
+    }
+
+    pub(crate) fn count_assembled(&mut self, word: u16) {
+        self.assembled[usize::from(word) % OPCODES] += 1;
+    }
+
+    fn met(&self, call: &'static str, answer: Answer) -> u64 {
+        self.answers.get(&(call, answer)).copied().unwrap_or(0)
+    }
+
+    /// Panics where some answer of some call, some opcode or some length of memory was never met.
+    pub fn assert_complete(&self) {
+        for Answers { call, refusals, kinds } in ANSWERS {
+            for &number in refusals {
+                assert_ne!(self.met(call, Answer::Refused(number)), 0, "{call} was never refused by {number}");
+            }
+            for &kind in kinds {
+                assert_ne!(self.met(call, Answer::Kind(kind)), 0, "{call} never answered {kind}");
+            }
+        }
+        for length in MEMORY_LENGTHS {
+            assert!(self.memories.contains_key(&length), "there was no memory of {length} words");
+        }
+        for opcode in 0..OPCODES {
+            assert_ne!(self.executed[opcode], 0, "opcode {opcode:03X} was never executed");
+            assert_ne!(self.listed[0][opcode], 0, "opcode {opcode:03X} was never listed with D clear");
+            assert_ne!(self.listed[1][opcode], 0, "opcode {opcode:03X} was never listed with D set");
+            assert_ne!(self.assembled[opcode], 0, "opcode {opcode:03X} was never assembled");
+        }
+    }
+}
+
+fn least(counts: &[u64; OPCODES]) -> u64 {
+    counts.iter().copied().min().unwrap_or(0)
+}
+
+impl fmt::Display for Tally {
+    fn fmt(&self, f: &mut fmt::Formatter<'_>) -> fmt::Result {
+        for Answers { call, refusals, kinds } in ANSWERS {
+            write!(f, "{call:9}")?;
+            for &kind in kinds {
+                write!(f, " {kind} {},", self.met(call, Answer::Kind(kind)))?;
+            }
+            write!(f, " refused")?;
+            for &number in refusals {
+                write!(f, " by {number} {}", self.met(call, Answer::Refused(number)))?;
+            }
+            writeln!(f)?;
+        }
+        write!(f, "memories ")?;
+        for length in MEMORY_LENGTHS {
+            write!(f, " of {length} words {},", self.memories.get(&length).copied().unwrap_or(0))?;
+        }
+        writeln!(f, " all {}", self.memories.values().sum::<u64>())?;
+        write!(f, "each opcode executed at least {} times, ", least(&self.executed))?;
+        write!(f, "listed {} and under D {}, ", least(&self.listed[0]), least(&self.listed[1]))?;
+        write!(f, "assembled {}", least(&self.assembled))
+    }
+}

@@ -1,0 +1,145 @@
+//! Image files: the loader and the writer.
+
+use crate::memory::check_length;
+use kit::{RECORD_WORDS, Refusal};
+
+const ID: &[u8; 2] = b"ID";
+const AT: &[u8; 2] = b"AT";
+const OK: &[u8; 2] = b"OK";
+
+/// The bytes of a word, of the mark and number at either end of a file, and of a record before its words.
+const WORD: usize = 2;
+const ENDS: usize = 8;
+const RECORD_HEAD: usize = 6;
+
+/// Loads an image file for `board`, and answers the number of its records.
+pub fn load(board: u16, memory: &mut [u16], file: &[u8]) -> Result<u64, Refusal> {
+    check_length(memory)?;
+    let records = check(board, memory.len(), file)?;
+    let mut rest = Rest(&file[4..]);
+    for _ in 0..records {
+        let record = rest.after_mark()?;
+        let start = usize::from(record.address);
+        let places = &mut memory[start..start + record.words.len() / WORD];
+        for (place, word) in places.iter_mut().zip(words(record.words)) {
+            *place = word;
+        }
+    }
+    Ok(records)
+}
+
+/// Tests a file from its start to its end, the sum last, and counts its records.
+fn check(board: u16, length: usize, file: &[u8]) -> Result<u64, Refusal> {
+    let mut rest = Rest(file);
+    if rest.take::<WORD>()? != ID {
+        return Err(Refusal::MalformedImage);
+    }
+    if rest.word()? != board {
+        return Err(Refusal::WrongBoard);
+    }
+    let mut sum = board;
+    let mut records = 0;
+    while rest.0.starts_with(AT) {
+        let record = rest.after_mark()?;
+        if usize::from(record.address) + record.words.len() / WORD > length {
+            return Err(Refusal::PastMemory);
+        }
+        sum = sum.wrapping_add(record.sum());
+        records += 1;
+    }
+    if rest.take::<WORD>()? != OK {
+        return Err(Refusal::MalformedImage);
+    }
+    let expected = rest.word()?;
+    if !rest.0.is_empty() {
+        return Err(Refusal::MalformedImage);
+    }
+    if sum == expected { Ok(records) } else { Err(Refusal::SumDiffers) }
+}
+
+/// What of a file is still to be read.
+struct Rest<'a>(&'a [u8]);
+
+struct Record<'a> {
+    address: u16,
+    words: &'a [u8],
+}
+
+impl<'a> Rest<'a> {
+    fn take<const N: usize>(&mut self) -> Result<&'a [u8; N], Refusal> {
+        let (taken, rest) = self.0.split_first_chunk().ok_or(Refusal::MalformedImage)?;
+        self.0 = rest;
+        Ok(taken)
+    }
+
+    fn word(&mut self) -> Result<u16, Refusal> {
+        self.take().map(|bytes| u16::from_be_bytes(*bytes))
+    }
+
+    /// A record whose mark is known to be there.
+    fn after_mark(&mut self) -> Result<Record<'a>, Refusal> {
+        self.take::<WORD>()?;
+        let address = self.word()?;
+        let count = usize::from(self.word()?);
+        if !(1..=RECORD_WORDS).contains(&count) {
+            return Err(Refusal::MalformedImage);
+        }
+        let (words, rest) = self.0.split_at_checked(WORD * count).ok_or(Refusal::MalformedImage)?;
+        self.0 = rest;
+        Ok(Record { address, words })
+    }
+}
+
+impl Record<'_> {
+    fn sum(&self) -> u16 {
+        let count = (self.words.len() / WORD) as u16;
+        words(self.words).fold(self.address.wrapping_add(count), u16::wrapping_add)
+    }
+}
+
+fn words(bytes: &[u8]) -> impl Iterator<Item = u16> {
+    bytes.as_chunks().0.iter().map(|pair| u16::from_be_bytes(*pair))
+}
+
+/// Writes the words `first..=last` as an image file for `board`, and answers its length.
+pub fn write(board: u16, memory: &[u16], first: u16, last: u16, room: &mut [u8]) -> Result<usize, Refusal> {
+    check_length(memory)?;
+    if first > last {
+        return Err(Refusal::FirstAboveLast);
+    }
+    let region = memory.get(usize::from(first)..=usize::from(last)).ok_or(Refusal::PastMemory)?;
+    let length = ENDS + WORD * region.len() + RECORD_HEAD * region.len().div_ceil(RECORD_WORDS);
+    let mut room = Room(room.get_mut(..length).ok_or(Refusal::ImageRoomTooSmall)?);
+    let mut sum = board;
+    room.put(ID, &[board]);
+    let mut address = first;
+    for words in region.chunks(RECORD_WORDS) {
+        let count = words.len() as u16;
+        room.put(AT, &[address, count]);
+        sum = room.put_words(words).wrapping_add(sum).wrapping_add(address).wrapping_add(count);
+        address = address.wrapping_add(count);
+    }
+    room.put(OK, &[sum]);
+    Ok(length)
+}
+
+/// What of a file is still to be written.
+struct Room<'a>(&'a mut [u8]);
+
+impl Room<'_> {
+    fn put(&mut self, mark: &[u8; 2], numbers: &[u16]) {
+        self.0.split_off_mut(..WORD).expect("the room was measured").copy_from_slice(mark);
+        self.put_words(numbers);
+    }
+
+    /// Puts the words, and answers their sum.
+    fn put_words(&mut self, words: &[u16]) -> u16 {
+        let mut sum = 0u16;
+        let room = self.0.split_off_mut(..WORD * words.len()).expect("the room was measured");
+        for (pair, word) in room.as_chunks_mut().0.iter_mut().zip(words) {
+            *pair = word.to_be_bytes();
+            sum = sum.wrapping_add(*word);
+        }
+        sum
+    }
+}

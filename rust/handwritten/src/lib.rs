@@ -1,0 +1,31 @@
+//! A CP1610 board kit in plain safe Rust, written by hand from document 01 and from nothing else: no rule or table of it comes
+//! from the proved code. The tests in `differential` hold the proved core against it, and `speed` measures both.
+//!
+//! It is written for speed, as an emulator's author would: a machine is changed in place, each opcode has a function of its own
+//! in a table, and what an opcode alone decides is decided while compiling.
+#![forbid(unsafe_code)]
+
+mod alu;
+mod assemble;
+mod execute;
+mod image;
+mod list;
+mod machine;
+mod memory;
+mod meter;
+mod mnemonic;
+mod opcode;
+mod shift;
+mod step;
+
+pub use assemble::assemble;
+pub use image::{load, write};
+pub use list::list;
+pub use machine::Machine;
+pub use meter::{region, wait};
+
+kit::declare_kit!(
+    /// This kit, as a type.
+    Handwritten,
+    "hand-written"
+);

@@ -1,0 +1,122 @@
+//! The lister: the line of the instruction at an address.
+
+use crate::memory::{check_length, joined, peek};
+use crate::mnemonic::{CALLS, DECLE, Form, JUMPS, MNEMONICS, Name, PLACE_OF};
+use crate::opcode::{JUMP, SDBD, bit, destination, opcode_at, row_of, source};
+use kit::{Listed, Refusal, TEXT_ROOM};
+
+const DIGITS: &[u8; 16] = b"0123456789ABCDEF";
+
+/// Puts the line of the instruction at `address` into `text`, with D as it stands there.
+pub fn list(memory: &[u16], address: u16, d: bool, text: &mut [u8]) -> Result<Listed, Refusal> {
+    check_length(memory)?;
+    if text.len() < TEXT_ROOM {
+        return Err(Refusal::TextRoomTooSmall);
+    }
+    let w = opcode_at(memory, address);
+    let mut line = Line::new();
+    let words = if w == JUMP { line.jump(memory, address) } else { line.instruction(memory, address, w, d) };
+    text[..line.length].copy_from_slice(&line.text[..line.length]);
+    Ok(Listed { length: line.length, words: words.into(), next_d: w == SDBD })
+}
+
+/// A line in the making.
+struct Line {
+    text: [u8; TEXT_ROOM],
+    length: usize,
+}
+
+impl Line {
+    fn new() -> Line {
+        Line { text: [0; TEXT_ROOM], length: 0 }
+    }
+
+    /// The line of a jump; its words are answered. With bits 3 it is no jump but a word by itself.
+    fn jump(&mut self, memory: &[u16], at: u16) -> u8 {
+        let (second, third) = (peek(memory, at.wrapping_add(1)), peek(memory, at.wrapping_add(2)));
+        let bits = usize::from(second & 3);
+        if bits == 3 {
+            self.name(MNEMONICS[DECLE].name).put(*b" $").hex(JUMP);
+            return 1;
+        }
+        let target = (second & 0xFC) << 8 | third & 0x3FF;
+        match usize::from(second >> 8 & 3) {
+            3 => self.name(MNEMONICS[JUMPS + bits].name).put(*b" $").hex(target),
+            field => self.name(MNEMONICS[CALLS + bits].name).register(4 + field).put(*b",$").hex(target),
+        };
+        row_of(JUMP, false).words
+    }
+
+    /// The line of any other opcode; its words are answered.
+    fn instruction(&mut self, memory: &[u16], at: u16, w: u16, d: bool) -> u8 {
+        let mnemonic = &MNEMONICS[usize::from(PLACE_OF[usize::from(w)])];
+        let operand = || peek(memory, at.wrapping_add(1));
+        let sign = if bit(5, w) { b'-' } else { b'+' };
+        let (s, d_field) = (source(w), destination(w));
+        self.name(mnemonic.name);
+        match mnemonic.form {
+            Form::Again if bit(0, w) => self.put(*b" 2"),
+            Form::Alone | Form::Again => self,
+            Form::Register | Form::LowRegister => self.register(d_field),
+            Form::Shift if bit(2, w) => self.register(d_field & 3).put(*b",2"),
+            Form::Shift => self.register(d_field),
+            Form::Registers | Form::ReadPointer => self.registers(s, d_field),
+            Form::StorePointer => self.registers(d_field, s),
+            Form::Branch => self.put([b' ', sign, b'$']).hex(operand()),
+            Form::External => self.decimal(w & 15).put([b',', sign, b'$']).hex(operand()),
+            Form::StoreDirect => self.register(d_field).put(*b",$").hex(operand()),
+            Form::StoreImmediate => self.register(d_field).put(*b",#$").hex(operand()),
+            Form::ReadDirect => self.put(*b" $").hex(operand()).last_register(d_field),
+            Form::ReadImmediate => self.put(*b" #$").hex(joined(memory, at.wrapping_add(1), d)).last_register(d_field),
+            Form::Jump | Form::Call | Form::Decle => unreachable!("a jump has a line of its own"),
+        };
+        row_of(w, d).words
+    }
+
+    /// The first part of a line.
+    #[inline(always)]
+    fn name(&mut self, name: Name) -> &mut Line {
+        self.text[..name.bytes.len()].copy_from_slice(&name.bytes);
+        self.length = name.length;
+        self
+    }
+
+    #[inline(always)]
+    fn put<const N: usize>(&mut self, bytes: [u8; N]) -> &mut Line {
+        self.text[self.length..self.length + N].copy_from_slice(&bytes);
+        self.length += N;
+        self
+    }
+
+    #[inline(always)]
+    fn register(&mut self, n: usize) -> &mut Line {
+        self.put([b' ', b'R', digit(n)])
+    }
+
+    #[inline(always)]
+    fn last_register(&mut self, n: usize) -> &mut Line {
+        self.put([b',', b'R', digit(n)])
+    }
+
+    #[inline(always)]
+    fn registers(&mut self, a: usize, b: usize) -> &mut Line {
+        self.put([b' ', b'R', digit(a), b',', b'R', digit(b)])
+    }
+
+    #[inline(always)]
+    fn hex(&mut self, word: u16) -> &mut Line {
+        self.put([12, 8, 4, 0].map(|place| DIGITS[usize::from(word >> place & 15)]))
+    }
+
+    /// A number below 16.
+    #[inline(always)]
+    fn decimal(&mut self, n: u16) -> &mut Line {
+        let n = usize::from(n);
+        if n < 10 { self.put([b' ', digit(n)]) } else { self.put([b' ', b'1', digit(n - 10)]) }
+    }
+}
+
+#[inline(always)]
+fn digit(n: usize) -> u8 {
+    b'0' + n as u8
+}

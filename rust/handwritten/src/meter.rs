@@ -1,0 +1,74 @@
+//! The wait meter: how long a request can go unheard from an address, or from any address of a region.
+
+use crate::memory::check_length;
+use crate::opcode::{HLT, SDBD, is_unspecified, opcode_at, row_of};
+use kit::{HIGHEST_LIMIT, Longest, Refusal, Region, USUAL_LIMIT, Wait};
+
+/// How long a request waits that comes before the instruction at `address`.
+pub fn wait(memory: &[u16], address: u16, limit: u16) -> Result<Wait, Refusal> {
+    check_length(memory)?;
+    Ok(walk(memory, address, limit_of(limit)?))
+}
+
+/// The longest wait from any address of `first..=last`, and the lowest that is over the limit.
+pub fn region(memory: &[u16], first: u16, last: u16, limit: u16) -> Result<Region, Refusal> {
+    check_length(memory)?;
+    if first > last {
+        return Err(Refusal::FirstAboveLast);
+    }
+    let limit = limit_of(limit)?;
+    let mut found = Region { longest: None, over: None };
+    for start in first..=last {
+        match walk(memory, start, limit) {
+            Wait::Wait(cycles) => {
+                if found.longest.is_none_or(|longest| longest.cycles < cycles) {
+                    found.longest = Some(Longest { cycles, start });
+                }
+            }
+            Wait::Over => found.over = found.over.or(Some(start)),
+            Wait::Halts | Wait::Unspecified(_) => {}
+        }
+    }
+    Ok(found)
+}
+
+/// "Limit 1 to 4,096 cycles; 0 means 57".
+fn limit_of(limit: u16) -> Result<u16, Refusal> {
+    match limit {
+        0 => Ok(USUAL_LIMIT),
+        1..=HIGHEST_LIMIT => Ok(limit),
+        _ => Err(Refusal::LimitTooHigh),
+    }
+}
+
+/// A row that is not heard is never unspecified, so only the last one has to be looked at for that.
+#[inline(always)]
+fn walk(memory: &[u16], start: u16, limit: u16) -> Wait {
+    let (mut at, mut sum, mut d) = (start, 0, false);
+    loop {
+        let w = opcode_at(memory, at);
+        let row = row_of(w, d);
+        sum += u16::from(row.cycles);
+        if row.heard | row.halts {
+            return last_row(memory, at, w, d, sum, limit);
+        }
+        if sum > limit {
+            return Wait::Over;
+        }
+        at = at.wrapping_add(row.words.into());
+        d = w == SDBD;
+    }
+}
+
+#[inline(always)]
+fn last_row(memory: &[u16], at: u16, w: u16, d: bool, sum: u16, limit: u16) -> Wait {
+    if is_unspecified(memory, at, w, d) {
+        Wait::Unspecified(at)
+    } else if sum > limit {
+        Wait::Over
+    } else if w == HLT {
+        Wait::Halts
+    } else {
+        Wait::Wait(sum)
+    }
+}

@@ -1,0 +1,142 @@
+//! One step, in document 01's order, and a run of steps.
+
+use crate::execute::{Board, STOP, dispatch};
+use crate::machine::Machine;
+use crate::memory::{check_length, poke};
+use crate::opcode::{R6, R7, is_unspecified, opcode_at};
+use kit::{Cause, Event, HIGHEST_BUDGET, Lines, Refusal, Run, Step};
+
+const INTERRUPT_ADDRESS: u16 = 0x1004;
+const GRANT: Step = Step { event: Event::Granted, cycles: 1 };
+const INTERRUPT: Step = Step { event: Event::Interrupted, cycles: 12 };
+
+/// A run's cycles stay below its budget + 12; what is left goes lower only by a `STOP`.
+const SLACK: i32 = 12;
+
+/// The steps that a run made, and the cycles of its budget that are left.
+struct Spent {
+    steps: u32,
+    left: i32,
+}
+
+impl Machine {
+    /// One step.
+    pub fn step(&mut self, memory: &mut [u16], lines: Lines) -> Result<Step, Refusal> {
+        check_length(memory)?;
+        if self.halted {
+            return Err(Refusal::Halted);
+        }
+        let pending = self.is_noted(lines);
+        if let Some(step) = self.serve(memory, lines, pending) {
+            return Ok(step);
+        }
+        let charge = dispatch(self, &mut Board { memory, external: lines.external });
+        if charge == STOP {
+            return Err(Refusal::Unspecified);
+        }
+        self.level = lines.intrm;
+        self.pending = pending;
+        Ok(Step { event: Event::Executed, cycles: charge % STOP })
+    }
+
+    /// Steps with fixed lines while their cycles are below the budget.
+    pub fn run(&mut self, memory: &mut [u16], lines: Lines, budget: u32) -> Result<Run, Refusal> {
+        check_length(memory)?;
+        if budget > HIGHEST_BUDGET {
+            return Err(Refusal::BudgetTooHigh);
+        }
+        if self.halted {
+            return Err(Refusal::Halted);
+        }
+        let mut board = Board { memory, external: lines.external };
+        let mut pending = self.is_noted(lines);
+        let mut spent = Spent { steps: 0, left: budget as i32 };
+        self.run_asked(&mut board, lines, &mut pending, &mut spent);
+        self.run_unasked(&mut board, &mut spent);
+        if spent.left < -SLACK {
+            spent.left += STOP as i32;
+            spent.steps -= u32::from(!self.halted);
+        }
+        if spent.steps > 0 {
+            self.level = lines.intrm;
+            self.pending = pending;
+        }
+        let cycles = (budget as i32 - spent.left) as u32;
+        Ok(Run { steps: spent.steps, cycles, cause: self.cause(memory, lines, pending) })
+    }
+
+    /// The steps before which a request may be served. The lines are fixed, so the mark of item 2 is the same before each step
+    /// until an interrupt is served; from then on, nothing can be asked for but the bus.
+    fn run_asked(&mut self, board: &mut Board, lines: Lines, pending: &mut bool, spent: &mut Spent) {
+        while spent.left > 0 && (*pending || !lines.busrq) {
+            let charge = match self.serve(board.memory, lines, *pending) {
+                Some(step) => {
+                    *pending = self.pending;
+                    step.cycles
+                }
+                None => dispatch(self, board),
+            };
+            spent.left -= charge as i32;
+            spent.steps += 1;
+        }
+    }
+
+    /// The steps before which nothing is asked for: instructions only.
+    fn run_unasked(&mut self, board: &mut Board, spent: &mut Spent) {
+        let Spent { mut steps, mut left } = *spent;
+        while left > 0 {
+            left -= dispatch(self, board) as i32;
+            steps += 1;
+        }
+        *spent = Spent { steps, left };
+    }
+
+    /// Item 2: whether an interrupt is pending under these lines.
+    #[inline(always)]
+    fn is_noted(&self, lines: Lines) -> bool {
+        !lines.intrm && (self.pending || self.level)
+    }
+
+    /// Items 3 and 4: what a request does before the next instruction, if it does anything.
+    #[inline(always)]
+    fn served(&self, lines: Lines, pending: bool) -> Option<Step> {
+        if !self.ready {
+            None
+        } else if !lines.busrq {
+            Some(GRANT)
+        } else if pending && self.i {
+            Some(INTERRUPT)
+        } else {
+            None
+        }
+    }
+
+    #[inline(always)]
+    fn serve(&mut self, memory: &mut [u16], lines: Lines, pending: bool) -> Option<Step> {
+        let step = self.served(lines, pending)?;
+        self.level = lines.intrm;
+        self.pending = pending;
+        if step.event == Event::Interrupted {
+            poke(memory, self.r[R6], self.r[R7]);
+            self.r[R6] = self.r[R6].wrapping_add(1);
+            self.r[R7] = INTERRUPT_ADDRESS;
+            self.pending = false;
+            self.ready = false;
+            self.d = false;
+        }
+        Some(step)
+    }
+
+    /// What ended a run: "halted, then unspecified, then budget".
+    fn cause(&self, memory: &[u16], lines: Lines, pending: bool) -> Cause {
+        let at = self.r[R7];
+        let executes = self.served(lines, pending).is_none();
+        if self.halted {
+            Cause::Halted
+        } else if executes && is_unspecified(memory, at, opcode_at(memory, at), self.d) {
+            Cause::Unspecified
+        } else {
+            Cause::Budget
+        }
+    }
+}

@@ -1,0 +1,108 @@
+//! Document 01's table of refusals.
+
+use std::error::Error;
+use std::fmt;
+
+/// Why a call was refused. A refused call alters nothing.
+#[derive(Clone, Copy, Debug, PartialEq, Eq)]
+#[repr(u8)]
+pub enum Refusal {
+    /// The memory is above 65,536 words.
+    MemoryTooLong = 1,
+    /// A step or a run on a halted machine.
+    Halted = 2,
+    /// A step meets an unspecified form.
+    Unspecified = 3,
+    /// A budget above 1,000,000 cycles.
+    BudgetTooHigh = 4,
+    /// A text room under 16 bytes.
+    TextRoomTooSmall = 5,
+    /// A line that is not one of the lister's.
+    NotAListingLine = 6,
+    /// A region whose first address is above its last.
+    FirstAboveLast = 7,
+    /// A limit above 4,096 cycles.
+    LimitTooHigh = 8,
+    /// An image file with a missing or wrong mark, cut, with a count of 0 or above 1,024, or with bytes after its end.
+    MalformedImage = 9,
+    /// An image file for another board.
+    WrongBoard = 10,
+    /// A record or a written region past the memory.
+    PastMemory = 11,
+    /// An image file whose sum differs.
+    SumDiffers = 12,
+    /// An image room that is too small.
+    ImageRoomTooSmall = 13,
+}
+
+impl Refusal {
+    /// Every refusal, by its number.
+    pub const ALL: [Refusal; 13] = [
+        Refusal::MemoryTooLong,
+        Refusal::Halted,
+        Refusal::Unspecified,
+        Refusal::BudgetTooHigh,
+        Refusal::TextRoomTooSmall,
+        Refusal::NotAListingLine,
+        Refusal::FirstAboveLast,
+        Refusal::LimitTooHigh,
+        Refusal::MalformedImage,
+        Refusal::WrongBoard,
+        Refusal::PastMemory,
+        Refusal::SumDiffers,
+        Refusal::ImageRoomTooSmall,
+    ];
+
+    /// Its number in document 01's table.
+    pub fn number(self) -> u8 {
+        self as u8
+    }
+
+    /// The refusal that has this number.
+    pub fn from_number(number: u64) -> Option<Refusal> {
+        let place = usize::try_from(number.checked_sub(1)?).ok()?;
+        Refusal::ALL.get(place).copied()
+    }
+
+    fn reason(self) -> &'static str {
+        match self {
+            Refusal::MemoryTooLong => "the memory is above 65,536 words",
+            Refusal::Halted => "the machine is halted",
+            Refusal::Unspecified => "the next instruction is unspecified",
+            Refusal::BudgetTooHigh => "the budget is above 1,000,000 cycles",
+            Refusal::TextRoomTooSmall => "the text room is under 16 bytes",
+            Refusal::NotAListingLine => "the line is not one of the lister's",
+            Refusal::FirstAboveLast => "the first address is above the last",
+            Refusal::LimitTooHigh => "the limit is above 4,096 cycles",
+            Refusal::MalformedImage => "the image file is malformed",
+            Refusal::WrongBoard => "the image file is for another board",
+            Refusal::PastMemory => "a record or region is past the memory",
+            Refusal::SumDiffers => "the image file's sum differs",
+            Refusal::ImageRoomTooSmall => "the image room is too small",
+        }
+    }
+}
+
+impl fmt::Display for Refusal {
+    fn fmt(&self, f: &mut fmt::Formatter<'_>) -> fmt::Result {
+        write!(f, "refused by {}: {}", self.number(), self.reason())
+    }
+}
+
+impl Error for Refusal {}
+
+#[cfg(test)]
+mod tests {
+    use super::Refusal;
+
+    #[test]
+    fn numbers_are_places_in_the_table() {
+        for (place, refusal) in Refusal::ALL.into_iter().enumerate() {
+            assert_eq!(usize::from(refusal.number()), place + 1);
+            assert_eq!(Refusal::from_number(refusal.number().into()), Some(refusal));
+        }
+        for number in [0, 14, 255, u64::MAX] {
+            assert_eq!(Refusal::from_number(number), None);
+        }
+    }
+}

@@ -1,0 +1,190 @@
+//! The workloads. Each round prepares its memory and its rooms anew and outside of what is measured, in the same way for both
+//! kits: memory is written in full before a run, and cleared before a load; a room for a file is cleared before a write.
+
+use crate::measured::{Measured, digest, time_of};
+use crate::programs::{self, Program, made_up_words};
+use cp1610::Proved;
+use handwritten::Handwritten;
+use kit::{HIGHEST_BUDGET, HIGHEST_LIMIT, Kit, LONGEST_MEMORY, Lines, TEXT_ROOM};
+use std::hint::black_box;
+
+/// A workload, with either kit.
+pub struct Workload {
+    pub name: &'static str,
+    /// What the figures are for one of.
+    pub unit: &'static str,
+    pub proved: fn() -> Measured,
+    pub handwritten: fn() -> Measured,
+}
+
+macro_rules! workload {
+    ($name:literal, $unit:literal, $measure:ident) => {
+        Workload { name: $name, unit: $unit, proved: $measure::<Proved>, handwritten: $measure::<Handwritten> }
+    };
+}
+
+pub const WORKLOADS: [Workload; 13] = [
+    workload!("run-alu", "step", run_alu),
+    workload!("run-copy", "step", run_copy),
+    workload!("run-mixed", "step", run_mixed),
+    workload!("run-100-cycles", "step", run_shortly),
+    workload!("step", "step", step),
+    workload!("wait", "call", wait),
+    workload!("region", "start", region),
+    workload!("region-long-walks", "row", region_long_walks),
+    workload!("list", "line", list),
+    workload!("assemble", "line", assemble),
+    workload!("load", "word", load),
+    workload!("write", "word", write),
+    workload!("write-and-load-16", "pair", small_files),
+];
+
+const SHORT_RUN: u32 = 100;
+const SHORT_RUNS: u32 = HIGHEST_BUDGET / SHORT_RUN;
+const BOARD: u16 = 2;
+
+/// Runs a program for so many cycles at a time, and so many times. The lines are hidden from the compiler.
+fn run<K: Kit>(mut program: Program, cycles: u32, times: u32) -> Measured {
+    let mut machine = K::from_words(&program.state);
+    let mut steps = 0;
+    let time = time_of(|| {
+        for _ in 0..times {
+            let run = K::run(&mut machine, &mut program.memory, black_box(Lines::QUIET), black_box(cycles));
+            steps += u64::from(run.map_or(0, |run| run.steps));
+        }
+    });
+    Measured { units: steps, time, digest: digest((K::to_words(&machine), program.memory)) }
+}
+
+fn run_alu<K: Kit>() -> Measured {
+    run::<K>(programs::alu(), HIGHEST_BUDGET, 1)
+}
+
+fn run_copy<K: Kit>() -> Measured {
+    run::<K>(programs::copy(), HIGHEST_BUDGET, 1)
+}
+
+fn run_mixed<K: Kit>() -> Measured {
+    run::<K>(programs::mixed(), HIGHEST_BUDGET, 1)
+}
+
+fn run_shortly<K: Kit>() -> Measured {
+    run::<K>(programs::mixed(), SHORT_RUN, SHORT_RUNS)
+}
+
+fn step<K: Kit>() -> Measured {
+    const STEPS: u64 = 100_000;
+    let mut program = programs::mixed();
+    let mut machine = K::from_words(&program.state);
+    let mut cycles = 0;
+    let time = time_of(|| {
+        for _ in 0..STEPS {
+            let step = K::step(&mut machine, &mut program.memory, black_box(Lines::QUIET));
+            cycles += step.map_or(0, |step| step.cycles);
+        }
+    });
+    Measured { units: STEPS, time, digest: digest((K::to_words(&machine), program.memory, cycles)) }
+}
+
+fn wait<K: Kit>() -> Measured {
+    let memory = made_up_words();
+    let mut answers = Vec::with_capacity(LONGEST_MEMORY);
+    let time = time_of(|| {
+        for address in 0..=u16::MAX {
+            answers.push(K::wait(&memory, address, 0));
+        }
+    });
+    Measured { units: answers.len() as u64, time, digest: digest(format!("{answers:?}")) }
+}
+
+/// A region of made-up words: short walks, as code has them.
+fn region<K: Kit>() -> Measured {
+    let memory = made_up_words();
+    let mut found = None;
+    let time = time_of(|| found = K::region(&memory, 0, u16::MAX, black_box(0)).ok());
+    Measured { units: LONGEST_MEMORY as u64, time, digest: digest(format!("{found:?}")) }
+}
+
+/// CLRC alone at the highest limit: 1,024 rows of 4 cycles are walked within the limit, and one more to pass it.
+fn region_long_walks<K: Kit>() -> Measured {
+    const CLRC: u16 = 0x006;
+    const STARTS: u16 = 256;
+    const ROWS: u64 = HIGHEST_LIMIT as u64 / 4 + 1;
+    let memory = vec![CLRC; LONGEST_MEMORY];
+    let mut found = None;
+    let time = time_of(|| found = K::region(&memory, 0, STARTS - 1, black_box(HIGHEST_LIMIT)).ok());
+    Measured { units: u64::from(STARTS) * ROWS, time, digest: digest(format!("{found:?}")) }
+}
+
+/// How many addresses are listed, each with D clear and with D set.
+const LISTED: u16 = 4_096;
+
+fn list<K: Kit>() -> Measured {
+    let memory = made_up_words();
+    let mut lines = vec![([0; TEXT_ROOM], 0); 2 * usize::from(LISTED)];
+    let time = time_of(|| {
+        for (n, (text, length)) in lines.iter_mut().enumerate() {
+            let listed = K::list(&memory, (n / 2) as u16, n % 2 == 1, text);
+            *length = listed.map_or(0, |listed| listed.length);
+        }
+    });
+    Measured { units: lines.len() as u64, time, digest: digest(lines) }
+}
+
+/// The same lines as those listed.
+fn assemble<K: Kit>() -> Measured {
+    let memory = made_up_words();
+    let mut lines = Vec::new();
+    for n in 0..2 * LISTED {
+        let mut text = [0; TEXT_ROOM];
+        let listed =
+            handwritten::list(&memory, n / 2, n % 2 == 1, &mut text).expect("memory and room are as they have to be");
+        lines.push((text[..listed.length].to_vec(), n % 2 == 1));
+    }
+    let mut words = Vec::with_capacity(lines.len());
+    let time = time_of(|| {
+        for (line, d) in &lines {
+            words.push(K::assemble(line, *d));
+        }
+    });
+    Measured { units: lines.len() as u64, time, digest: digest(format!("{words:?}")) }
+}
+
+/// The bytes of a file with 65,536 words in records of 1,024.
+const FILE_LENGTH: usize = 131_464;
+
+fn load<K: Kit>() -> Measured {
+    let words = made_up_words();
+    let mut file = vec![0; FILE_LENGTH];
+    handwritten::write(BOARD, &words, 0, u16::MAX, &mut file).expect("the room is large enough");
+    let mut memory = vec![0; LONGEST_MEMORY];
+    let mut records = 0;
+    let time = time_of(|| records = K::load(BOARD, &mut memory, &file).unwrap_or(0));
+    Measured { units: LONGEST_MEMORY as u64, time, digest: digest((records, memory)) }
+}
+
+fn write<K: Kit>() -> Measured {
+    let words = made_up_words();
+    let mut room = vec![0; FILE_LENGTH];
+    let mut length = 0;
+    let time = time_of(|| length = K::write(BOARD, &words, 0, u16::MAX, &mut room).unwrap_or(0));
+    Measured { units: LONGEST_MEMORY as u64, time, digest: digest((length, room)) }
+}
+
+/// Files of 16 words each, written and loaded: what a call costs beside its words.
+fn small_files<K: Kit>() -> Measured {
+    const WORDS: u16 = 16;
+    const FILES: u16 = 1_024;
+    let words = made_up_words();
+    let mut memory = vec![0; LONGEST_MEMORY];
+    let mut room = [0; 8 + 6 + 2 * WORDS as usize];
+    let mut loaded = 0;
+    let time = time_of(|| {
+        for n in 0..FILES {
+            let first = n * WORDS;
+            let length = K::write(BOARD, &words, first, first + WORDS - 1, &mut room).unwrap_or(0);
+            loaded += K::load(BOARD, &mut memory, &room[..length]).unwrap_or(0);
+        }
+    });
+    Measured { units: FILES.into(), time, digest: digest((loaded, memory)) }
+}
