@@ -1,6 +1,7 @@
 //! The C interface as it is (`include/cp1610.h`), with slices in place of pointers and lengths. All `unsafe` code of the wrapper
 //! stands here. A program wants [`Machine`](crate::Machine) and the functions beside it; these are for one that has its own
 //! state of words, or that tests the interface.
+#![allow(unsafe_code)]
 
 unsafe extern "C" {
     fn cp1610_reset(state: *mut u16, state_length: usize) -> u64;

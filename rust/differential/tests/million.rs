@@ -1,6 +1,8 @@
 //! A million random calls of both kits, over all calls and all that they can answer.
 //!
-//!     cargo test -p differential --test million -- SEED CALLS
+//! ```text
+//! cargo test -p differential --test million -- SEED CALLS
+//! ```
 
 use std::env;
 

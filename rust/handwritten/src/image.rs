@@ -7,18 +7,20 @@ const ID: &[u8; 2] = b"ID";
 const AT: &[u8; 2] = b"AT";
 const OK: &[u8; 2] = b"OK";
 
-/// The bytes of a word, of the mark and number at either end of a file, and of a record before its words.
+/// The bytes of a mark or number; of a file's head, a mark and the board; of its tail, a mark and the sum; of a record's head, a mark,
+/// the address and the count.
 const WORD: usize = 2;
-const ENDS: usize = 8;
-const RECORD_HEAD: usize = 6;
+const HEAD: usize = 2 * WORD;
+const TAIL: usize = 2 * WORD;
+const RECORD_HEAD: usize = 3 * WORD;
 
 /// Loads an image file for `board`, and answers the number of its records.
 pub fn load(board: u16, memory: &mut [u16], file: &[u8]) -> Result<u64, Refusal> {
     check_length(memory)?;
     let records = check(board, memory.len(), file)?;
-    let mut rest = Rest(&file[4..]);
+    let mut rest = Rest(&file[HEAD..]);
     for _ in 0..records {
-        let record = rest.after_mark()?;
+        let record = rest.record()?;
         let start = usize::from(record.address);
         let places = &mut memory[start..start + record.words.len() / WORD];
         for (place, word) in places.iter_mut().zip(words(record.words)) {
@@ -31,7 +33,7 @@ pub fn load(board: u16, memory: &mut [u16], file: &[u8]) -> Result<u64, Refusal>
 /// Tests a file from its start to its end, the sum last, and counts its records.
 fn check(board: u16, length: usize, file: &[u8]) -> Result<u64, Refusal> {
     let mut rest = Rest(file);
-    if rest.take::<WORD>()? != ID {
+    if rest.mark()? != ID {
         return Err(Refusal::MalformedImage);
     }
     if rest.word()? != board {
@@ -40,14 +42,14 @@ fn check(board: u16, length: usize, file: &[u8]) -> Result<u64, Refusal> {
     let mut sum = board;
     let mut records = 0;
     while rest.0.starts_with(AT) {
-        let record = rest.after_mark()?;
+        let record = rest.record()?;
         if usize::from(record.address) + record.words.len() / WORD > length {
             return Err(Refusal::PastMemory);
         }
         sum = sum.wrapping_add(record.sum());
         records += 1;
     }
-    if rest.take::<WORD>()? != OK {
+    if rest.mark()? != OK {
         return Err(Refusal::MalformedImage);
     }
     let expected = rest.word()?;
@@ -66,19 +68,19 @@ struct Record<'a> {
 }
 
 impl<'a> Rest<'a> {
-    fn take<const N: usize>(&mut self) -> Result<&'a [u8; N], Refusal> {
+    fn mark(&mut self) -> Result<&'a [u8; WORD], Refusal> {
         let (taken, rest) = self.0.split_first_chunk().ok_or(Refusal::MalformedImage)?;
         self.0 = rest;
         Ok(taken)
     }
 
     fn word(&mut self) -> Result<u16, Refusal> {
-        self.take().map(|bytes| u16::from_be_bytes(*bytes))
+        self.mark().map(|bytes| u16::from_be_bytes(*bytes))
     }
 
     /// A record whose mark is known to be there.
-    fn after_mark(&mut self) -> Result<Record<'a>, Refusal> {
-        self.take::<WORD>()?;
+    fn record(&mut self) -> Result<Record<'a>, Refusal> {
+        self.mark()?;
         let address = self.word()?;
         let count = usize::from(self.word()?);
         if !(1..=RECORD_WORDS).contains(&count) {
@@ -108,7 +110,7 @@ pub fn write(board: u16, memory: &[u16], first: u16, last: u16, room: &mut [u8])
         return Err(Refusal::FirstAboveLast);
     }
     let region = memory.get(usize::from(first)..=usize::from(last)).ok_or(Refusal::PastMemory)?;
-    let length = ENDS + WORD * region.len() + RECORD_HEAD * region.len().div_ceil(RECORD_WORDS);
+    let length = HEAD + TAIL + WORD * region.len() + RECORD_HEAD * region.len().div_ceil(RECORD_WORDS);
     let mut room = Room(room.get_mut(..length).ok_or(Refusal::ImageRoomTooSmall)?);
     let mut sum = board;
     room.put(ID, &[board]);

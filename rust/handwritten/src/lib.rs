@@ -3,7 +3,6 @@
 //!
 //! It is written for speed, as an emulator's author would: a machine is changed in place, each opcode has a function of its own
 //! in a table, and what an opcode alone decides is decided while compiling.
-#![forbid(unsafe_code)]
 
 mod alu;
 mod assemble;

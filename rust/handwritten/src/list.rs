@@ -31,7 +31,7 @@ impl Line {
         Line { text: [0; TEXT_ROOM], length: 0 }
     }
 
-    /// The line of a jump; its words are answered. With bits 3 it is no jump but a word by itself.
+    /// Makes the line of a jump, and answers how many words it has. With bits 3 it is no jump but a word by itself.
     fn jump(&mut self, memory: &[u16], at: u16) -> u8 {
         let (second, third) = (peek(memory, at.wrapping_add(1)), peek(memory, at.wrapping_add(2)));
         let bits = usize::from(second & 3);
@@ -47,27 +47,27 @@ impl Line {
         row_of(JUMP, false).words
     }
 
-    /// The line of any other opcode; its words are answered.
+    /// Makes the line of any other opcode, and answers how many words it has.
     fn instruction(&mut self, memory: &[u16], at: u16, w: u16, d: bool) -> u8 {
         let mnemonic = &MNEMONICS[usize::from(PLACE_OF[usize::from(w)])];
         let operand = || peek(memory, at.wrapping_add(1));
         let sign = if bit(5, w) { b'-' } else { b'+' };
-        let (s, d_field) = (source(w), destination(w));
+        let (s, r) = (source(w), destination(w));
         self.name(mnemonic.name);
         match mnemonic.form {
             Form::Again if bit(0, w) => self.put(*b" 2"),
             Form::Alone | Form::Again => self,
-            Form::Register | Form::LowRegister => self.register(d_field),
-            Form::Shift if bit(2, w) => self.register(d_field & 3).put(*b",2"),
-            Form::Shift => self.register(d_field),
-            Form::Registers | Form::ReadPointer => self.registers(s, d_field),
-            Form::StorePointer => self.registers(d_field, s),
+            Form::Register | Form::LowRegister => self.register(r),
+            Form::Shift if bit(2, w) => self.register(r & 3).put(*b",2"),
+            Form::Shift => self.register(r),
+            Form::Registers | Form::ReadPointer => self.registers(s, r),
+            Form::StorePointer => self.registers(r, s),
             Form::Branch => self.put([b' ', sign, b'$']).hex(operand()),
             Form::External => self.decimal(w & 15).put([b',', sign, b'$']).hex(operand()),
-            Form::StoreDirect => self.register(d_field).put(*b",$").hex(operand()),
-            Form::StoreImmediate => self.register(d_field).put(*b",#$").hex(operand()),
-            Form::ReadDirect => self.put(*b" $").hex(operand()).last_register(d_field),
-            Form::ReadImmediate => self.put(*b" #$").hex(joined(memory, at.wrapping_add(1), d)).last_register(d_field),
+            Form::StoreDirect => self.register(r).put(*b",$").hex(operand()),
+            Form::StoreImmediate => self.register(r).put(*b",#$").hex(operand()),
+            Form::ReadDirect => self.put(*b" $").hex(operand()).last_register(r),
+            Form::ReadImmediate => self.put(*b" #$").hex(joined(memory, at.wrapping_add(1), d)).last_register(r),
             Form::Jump | Form::Call | Form::Decle => unreachable!("a jump has a line of its own"),
         };
         row_of(w, d).words

@@ -1,8 +1,10 @@
 //! Measures the proved core beside the hand-written kit, both called from Rust.
 //!
-//!     speed                      the time of each workload: both in turn in one process, the median of the rounds
-//!     speed instructions         the machine instructions of each, counted by valgrind's callgrind
-//!     speed once WORKLOAD KIT    one round of one workload with one kit, which is what is run under callgrind
+//! ```text
+//! speed                      the time of each workload: both in turn in one process, the median of the rounds
+//! speed instructions         the machine instructions of each, counted by valgrind's callgrind
+//! speed once WORKLOAD KIT    one round of one workload with one kit, which is what is run under callgrind
+//! ```
 
 mod instructions;
 mod measured;
