@@ -24,7 +24,7 @@ use Rattle.cpu.specs.declared.change.Change.{Change}
 use Rattle.cpu.specs.declared.operate.Fetched.{Fetched}
 use Rattle.cpu.specs.State.{registerOf, operandOf, interruptedRegisters}
 use Rattle.cpu.specs.Change.{heldOf, goesTo, writesTo, registersAfter}
-use Rattle.cpu.specs.Control.{controlOf, jumpOf}
+use Rattle.cpu.specs.Control.{controlOf, jumpOf, withCarry}
 use Rattle.cpu.specs.Single.{gswdOf, singleResult, singleOf, shiftedOf}
 use Rattle.cpu.specs.Branch.{takenOf, targetOf, branchedOf, branchOf}
 use Rattle.cpu.specs.Operate.{joinOf, plainOf, throughOf, autoOf, stackOf, immediateOf, fetchOf, sourceOf, destinationOf, transferOf, operationOf, operateOf}
@@ -78,24 +78,24 @@ module _ (r : List ℕ) (k : Status) (read : ℕ → ℕ) (pc next external : �
   unfolding operandOf registerOf
   operand-low n p i = cond-both Word (eqb i 7) p (hr (i % 8))
 
-  goes-fits : (f : Flagged) (i : Bool) → Fits (goesTo next f i)
-  unfolding goesTo
-  goes-fits f i = record { value = lit< tt; moved = lit< tt; next = hn }
-
   writes-fits : (n d : ℕ) (f : Flagged) (i : Bool) → Word n → Low f → Fits (writesTo n d f i)
   unfolding writesTo
   writes-fits n d f i p q = record { value = q; moved = lit< tt; next = p }
+
+  goes-fits : (f : Flagged) (i : Bool) → Low f → Fits (goesTo next f i)
+  unfolding goesTo
+  goes-fits f i q = writes-fits _ _ f i hn q
 
   jump-fits : Fits (jumpOf k read pc next)
   unfolding jumpOf heldOf
   jump-fits = writes-fits _ _ _ _ (omega arith) hn
 
   control-fits : (d : ℕ) → Fits (controlOf k read pc next d)
-  unfolding controlOf
+  unfolding controlOf heldOf withCarry
   control-fits d =
-      cond-both Fits (eqb d 2) (goes-fits _ _)
-      (cond-both Fits (eqb d 3) (goes-fits _ _)
-      (cond-both Fits (eqb d 4) jump-fits (cond-both Fits (eqb d 6) (goes-fits _ _) (cond-both Fits (eqb d 7) (goes-fits _ _) (goes-fits _ _)))))
+      cond-both Fits (eqb d 2) (goes-fits _ _ (lit< tt))
+      (cond-both Fits (eqb d 3) (goes-fits _ _ (lit< tt))
+      (cond-both Fits (eqb d 4) jump-fits (cond-both Fits (eqb d 6) (goes-fits _ _ (lit< tt)) (cond-both Fits (eqb d 7) (goes-fits _ _ (lit< tt)) (goes-fits _ _ (lit< tt))))))
 
   single-low : (s d : ℕ) (f : Flagged) → Low f → Low (singleResult s d f)
   unfolding singleResult setSZ withSign addOf subtractOf gswdOf fromStatus

@@ -17,23 +17,6 @@ noRegister = 8
 unfoldable pub heldOf : Status → ℕ → Flagged
 heldOf k v = record { value = v; s = k .s; z = k .z; o = k .o; c = k .c }
 
--- no register but R7 changes
-unfoldable pub goesTo : ℕ → Flagged → Bool → Change
-goesTo next f i =
-    record {
-      destination = noRegister;
-      value = 0;
-      pointer = noRegister;
-      moved = 0;
-      next = next;
-      saved = 0;
-      s = f .s;
-      z = f .z;
-      o = f .o;
-      c = f .c;
-      i = i;
-    }
-
 -- register d takes a result with its flags
 unfoldable pub writesTo : ℕ → ℕ → Flagged → Bool → Change
 writesTo next d f i =
@@ -50,6 +33,10 @@ writesTo next d f i =
       c = f .c;
       i = i;
     }
+
+-- no register but R7 changes
+unfoldable pub goesTo : ℕ → Flagged → Bool → Change
+goesTo next f i = writesTo next noRegister f i
 
 -- register k as destination: it takes the value, and else stays at w
 abbrev pub destinationAfter : Change → ℕ → ℕ → ℕ

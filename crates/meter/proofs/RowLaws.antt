@@ -38,7 +38,7 @@ unfolding registersAfter
 line-moves r e h = cond-false (e .value) (e .next) (h .kept) ∙ h .moves
 
 goes-on : (next : ℕ) (f : Flagged) (i : Bool) → InLine next (goesTo next f i)
-unfolding goesTo
+unfolding goesTo writesTo
 goes-on next f i = record { kept = refl; moves = refl; whole = refl }
 
 -- what holds of the way that is taken
