@@ -1,28 +1,15 @@
 -- The laws of `specs/Laws` on words and on steps.
 use Prim.Native.Nat.{ℕ, _≤_, _<_, _/_, _%_}
 use mathlib.Core.Path.{_≡_, refl, ap, sym, _∙_}
-use mathlib.Core.Bool.{Bool, true, false, cond}
+use mathlib.Core.Bool.{Bool, true, false, cond, false≢true}
 use mathlib.Core.List.{List, [], _∷_, map}
 use native.Mathlib.Omega.{arith}
-use borrow.Author.Tests.{ltb-true, le-ltb}
+use borrow.Author.Tests.{ltb-true, lt-ltb, le-ltb}
 use lib.ListN.{length, length-drop}
 use Rattle.refusal.specs.declared.Refusal.{Refusal}
-use Rattle.refusal.specs.declared.Refusal.the-variants.{
-  MemoryTooLong,
-  Halted,
-  Unspecified,
-  BudgetTooHigh,
-  TextRoomTooSmall,
-  NotAListingLine,
-  FirstAboveLast,
-  LimitTooHigh,
-  MalformedImage,
-  WrongBoard,
-  PastMemory,
-  SumDiffers,
-  ImageRoomTooSmall,
-}
 use Rattle.refusal.specs.Refusals.{refusalNumber}
+use Rattle.refusal.proofs.Laws.{numbers-low}
+use Rattle.word.proofs.Choice.{cond-both}
 use Rattle.cpu.specs.declared.State.{State}
 use Rattle.cpu.specs.declared.Lines.{Lines}
 use Rattle.cpu.specs.State.{interruptedRegisters}
@@ -34,9 +21,9 @@ use Rattle.cpu.specs.Laws.{Costs}
 use Rattle.cpu.proofs.StepLaws.{by-action}
 use Rattle.cpu.proofs.Laws.{refused-keeps-all, every-cost}
 use Rattle.cp1610.specs.Words.{stateLength, eight, isSet, flagWord, unpacked, packed, linesOf}
-use Rattle.cp1610.specs.Answers.{isRefusal, shortBuffer, successWord, answerWord}
-use Rattle.cp1610.specs.Call.{Called, called, isShort, handedBack, stepCall}
-use Rattle.cp1610.specs.Laws.{UnpacksPacked, KeepsRest, RefusedAltersNothing, readResult, readCall, CallIsStep, callsFrom, CallsAreSteps}
+use Rattle.cp1610.specs.Answers.{isRefusal, successWord, answerWord}
+use Rattle.cp1610.specs.Call.{Called, isShort, handedBack, stepCall}
+use Rattle.cp1610.specs.Laws.{UnpacksPacked, KeepsRest, readResult, readCall, CallIsStep, callsFrom, CallsAreSteps}
 
 eight-same : (r : List ℕ) → length r ≡ 8 → eight r ≡ r
 eight-same [] e = absurd (omega arith)
@@ -64,26 +51,18 @@ keeps-rest words st = record { rest = refl; size = λ h. omega (arith, length-dr
 
 -- no refusal's number reaches the kinds
 pub number-low : (r : Refusal) → isRefusal (refusalNumber r) ≡ true
-number-low MemoryTooLong = refl
-number-low Halted = refl
-number-low Unspecified = refl
-number-low BudgetTooHigh = refl
-number-low TextRoomTooSmall = refl
-number-low NotAListingLine = refl
-number-low FirstAboveLast = refl
-number-low LimitTooHigh = refl
-number-low MalformedImage = refl
-number-low WrongBoard = refl
-number-low PastMemory = refl
-number-low SumDiffers = refl
-number-low ImageRoomTooSmall = refl
+number-low r = lt-ltb (refusalNumber r) 0x100000000 (omega (arith, numbers-low r))
+
+-- and no success is a refusal
+pub success-high : (kind value : ℕ) → 1 ≤ kind → isRefusal (successWord kind value) ≡ false
+unfolding successWord
+success-high kind value some = le-ltb (successWord kind value) 0x100000000 (omega arith)
+
+pub no-refusal : {A : Type 0} (kind value : ℕ) → 1 ≤ kind → isRefusal (successWord kind value) ≡ true → A
+no-refusal kind value some e = absurd (false≢true (sym (success-high kind value some) ∙ e))
 
 -- a success is read back from its two halves
 module _ (kind value : ℕ) (some : 1 ≤ kind) (low : value < 0x100000000) where
-  success-high : isRefusal (successWord kind value) ≡ false
-  unfolding successWord
-  success-high = le-ltb (successWord kind value) 0x100000000 (omega arith)
-
   success-kind : successWord kind value / 0x100000000 ≡ kind
   unfolding successWord
   success-kind = omega arith
@@ -94,7 +73,7 @@ module _ (kind value : ℕ) (some : 1 ≤ kind) (low : value < 0x100000000) wher
 
   -- and so is a state with eight registers from the words
   success-read : (words m : List ℕ) (st : State) → length (st .registers) ≡ 8 → let o : Outcome = record { state = st; answer = answered kind value; memory = m } in readCall (handedBack words o) ≡ o
-  success-read words m st e = rw (success-high, success-kind, success-value, unpacks-packed words st e)
+  success-read words m st e = rw (success-high kind value some, success-kind, success-value, unpacks-packed words st e)
 
 refused-read : (words m : List ℕ) (n : ℕ) → isRefusal n ≡ true → let o : Outcome = record { state = unpacked words; answer = refused n; memory = m } in readCall (handedBack words o) ≡ o
 refused-read words m n e = rw e
@@ -125,21 +104,16 @@ unfolding successWord
 is-refused (refused n) costs e = (n, refl)
 is-refused (answered kind cycles) costs e = absurd (omega (arith, costs kind cycles refl .kinds, ltb-true (successWord kind cycles) 0x100000000 e))
 
-abbrev AltersNothing : List ℕ → List ℕ → Called → Type 0
-AltersNothing words m c = isRefusal (c .result) ≡ true → (c .state ≡ words) × (c .memory ≡ m)
-
-pub refused-alters-nothing : RefusedAltersNothing
+-- a refused step leaves the state's words and the memory
+pub refused-step : (words m : List ℕ) (n : ℕ) → let c : Called = stepCall words m n in isRefusal (c .result) ≡ true → (c .state ≡ words) × (c .memory ≡ m)
 unfolding stepCall
-refused-alters-nothing words m n = by-length (isShort stateLength words)
-  where
-    o : Outcome
-    o = stepOf (unpacked words) m (linesOf n)
-
-    by-length : (b : Bool) → AltersNothing words m (cond b (called shortBuffer words m) (handedBack words o))
-    by-length true e = (refl, refl)
-    by-length false e =
-        let r = is-refused (o .answer) (every-cost (unpacked words) m (linesOf n)) e in
-        (rw e, refused-keeps-all (unpacked words) m (linesOf n) (r .0) (r .1) .1)
+refused-step words m n =
+    cond-both (λ (c : Called). isRefusal (c .result) ≡ true → (c .state ≡ words) × (c .memory ≡ m)) (isShort stateLength words)
+    (λ e. (refl, refl))
+    (λ e.
+    let o : Outcome = stepOf (unpacked words) m (linesOf n) in
+    let r = is-refused (o .answer) (every-cost (unpacked words) m (linesOf n)) e in
+    (rw e, refused-keeps-all (unpacked words) m (linesOf n) (r .0) (r .1) .1))
 
 stays-long : (words m : List ℕ) (n : ℕ) → stateLength ≤ length words → stateLength ≤ length (stepCall words m n .state)
 unfolding packed

@@ -3,3 +3,4 @@ pub mod WordLaws
 pub mod CountLaws
 pub mod CallLaws
 pub mod RunCallLaws
+pub mod RefusedLaws

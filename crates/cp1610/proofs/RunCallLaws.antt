@@ -1,10 +1,10 @@
 -- The laws of `specs/Laws` on runs.
 use Prim.Native.Nat.{ℕ, zero, suc, _+_, _≤_}
 use mathlib.Core.Path.{_≡_, refl, ap, _∙_}
-use mathlib.Core.Bool.{Bool, true, false, cond, _||_, false≢true}
-use mathlib.Core.List.{List}
+use mathlib.Core.Bool.{true, _||_}
+use mathlib.Core.List.{List, [], _∷_}
 use borrow.Author.Tests.{le-ltb}
-use lib.Dec.{ltb}
+use lib.Dec.{ltb, lit≤}
 use lib.ListN.{length}
 use Rattle.refusal.specs.declared.Refusal.{Refusal}
 use Rattle.refusal.specs.declared.Refusal.the-variants.{MemoryTooLong, BudgetTooHigh, Halted as HaltedMachine}
@@ -21,10 +21,10 @@ use Rattle.run.specs.declared.Cause.{Cause}
 use Rattle.run.specs.declared.Cause.the-variants.{Halted, Unspecified, Budget}
 use Rattle.run.specs.Run.{RunOutcome, refuse, causeOf, finish, goesOn, runFrom, runOn, runOf}
 use Rattle.cp1610.specs.Words.{stateLength, unpacked, linesOf}
-use Rattle.cp1610.specs.Answers.{isRefusal, shortBuffer, successWord, runLength, causeNumber, runWords}
-use Rattle.cp1610.specs.Call.{RunCalled, runCalled, isShort, runHandedBack, runCall}
-use Rattle.cp1610.specs.Laws.{RefusedRunAltersNothing, readCause, readRun, CallIsRun}
-use Rattle.cp1610.proofs.CallLaws.{number-low, unpacks-packed}
+use Rattle.cp1610.specs.Answers.{isRefusal, successWord, runLength, causeNumber, runWords}
+use Rattle.cp1610.specs.Call.{RunCalled, isShort, runHandedBack, runCall}
+use Rattle.cp1610.specs.Laws.{readCause, readRun, CallIsRun}
+use Rattle.cp1610.proofs.CallLaws.{number-low, no-refusal, unpacks-packed}
 
 abbrev Eight : State → Type 0
 Eight st = length (st .registers) ≡ 8
@@ -50,18 +50,19 @@ module _
       (cond-both P (ltb 1000000 budget) (refuses BudgetTooHigh)
       (cond-both P (unpacked words .status .halted) (refuses HaltedMachine) (by-end _ (unpacked words) m 0 0 refl)))
 
-abbrev AltersNothing : List ℕ → List ℕ → List ℕ → RunCalled → Type 0
-AltersNothing words m out c = isRefusal (c .result) ≡ true → (c .state ≡ words) × (c .memory ≡ m) × (c .out ≡ out)
+abbrev Left : RunCalled → List (List ℕ)
+Left c = c .state ∷ c .memory ∷ c .out ∷ []
 
-pub refused-run-alters-nothing : RefusedRunAltersNothing
-unfolding runCall refuse finish successWord
-refused-run-alters-nothing words m lines budget out =
-    cond-both (AltersNothing words m out) (isShort stateLength words || isShort runLength out)
-    (λ e. (refl, refl, refl))
-    (by-run (λ (o : RunOutcome). AltersNothing words m out (runHandedBack words out o)) (linesOf lines) budget
-    (λ st n steps cycles h e. absurd (false≢true e))
+-- a refused run leaves the state's words, the memory and `out`
+pub refused-run : (words m : List ℕ) (lines budget : ℕ) (out : List ℕ) → isRefusal (runCall words m lines budget out .result) ≡ true → Left (runCall words m lines budget out) ≡ words ∷ m ∷ out ∷ []
+unfolding runCall refuse finish
+refused-run words m lines budget out =
+    cond-both (λ (c : RunCalled). isRefusal (c .result) ≡ true → Left c ≡ words ∷ m ∷ out ∷ []) (isShort stateLength words || isShort runLength out)
+    (λ e. refl)
+    (by-run (λ (o : RunOutcome). isRefusal (runHandedBack words out o .result) ≡ true → Left (runHandedBack words out o) ≡ words ∷ m ∷ out ∷ []) (linesOf lines) budget
+    (λ st n steps cycles h e. no-refusal 1 0 (lit≤ tt) e)
     words m
-    (λ r e. (refl, refl, refl)))
+    (λ r e. refl))
 
 cause-read : (cause : Cause) → readCause (causeNumber cause) ≡ cause
 cause-read Halted = refl

@@ -1,8 +1,8 @@
--- What holds of every call: a caller in C reads from the calls what document 01 says of the steps and of the run. Proved in
--- `proofs/CallLaws` and `proofs/RunCallLaws`.
+-- What a caller in C reads from the calls: what document 01 says of the steps and of the run. Proved in `proofs/CallLaws` and
+-- `proofs/RunCallLaws`; `Calls` has what holds of every call.
 use Prim.Native.Nat.{ℕ, _/_, _%_, _≤_}
 use mathlib.Core.Path.{_≡_}
-use mathlib.Core.Bool.{true, cond}
+use mathlib.Core.Bool.{cond}
 use mathlib.Core.List.{List, [], _∷_, map}
 use lib.Dec.{eqb}
 use lib.ListN.{length, getD, drop}
@@ -25,13 +25,6 @@ UnpacksPacked = (words : List ℕ) (st : State) → length (st .registers) ≡ 8
 pub record KeepsRest (words : List ℕ) (st : State) : Type 0 where
   pub rest : drop stateLength (packed words st) ≡ drop stateLength words
   pub size : stateLength ≤ length words → length (packed words st) ≡ length words
-
--- "A refused call alters nothing at all: not the state, its words 8 to 17 included, and not memory."
-abbrev pub RefusedAltersNothing : Type 0
-RefusedAltersNothing =
-    (words m : List ℕ) (lines : ℕ) →
-    isRefusal (stepCall words m lines .result) ≡ true →
-    (stepCall words m lines .state ≡ words) × (stepCall words m lines .memory ≡ m)
 
 -- how a caller reads a result: "the high 32 bits are the kind, the low 32 the value"
 abbrev pub readResult : ℕ → Reported
@@ -60,14 +53,6 @@ CallsAreSteps =
     (words m ns : List ℕ) →
     stateLength ≤ length words →
     map readCall (callsFrom words m ns) ≡ map (λ (x : Moment). x .left) (stepsFrom (unpacked words) m (map linesOf ns))
-
--- a refused run alters nothing either, `out` included
-abbrev pub RefusedRunAltersNothing : Type 0
-RefusedRunAltersNothing =
-    (words m : List ℕ) (lines budget : ℕ) (out : List ℕ) →
-    let c : RunCalled = runCall words m lines budget out in
-    isRefusal (c .result) ≡ true →
-    (c .state ≡ words) × (c .memory ≡ m) × (c .out ≡ out)
 
 -- how a caller reads a cause: "0 halted, 1 unspecified, 2 budget"
 abbrev pub readCause : ℕ → Cause

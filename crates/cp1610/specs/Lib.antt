@@ -5,4 +5,5 @@ pub mod Call
 pub mod MeterCall
 pub mod ImageCall
 pub mod ListingCall
+pub mod Calls
 pub mod Laws

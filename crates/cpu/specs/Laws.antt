@@ -52,18 +52,19 @@ EveryCost =
     Costs kind cycles
 
 -- "After a compare, BLT is taken exactly if d is below the operand as signed numbers; BC exactly if d is not below it unsigned."
--- A compare is an operate of row 5: CMPR or CMP. g is its operand, d the destination operand. BLT's bits 5 to 0 are 5, BC's 1.
+-- A compare is an operate of row 5: CMPR or CMP. g is its operand, x the destination operand. b is bits 5 to 0 of the branch: bits 4 to 0 are
+-- 5 of BLT, forward and backward, and 1 of BC.
 abbrev pub AfterCompare : Type 0
 AfterCompare =
-    (r : List ℕ) (k : Status) (read : ℕ → ℕ) (pc next row s d external : ℕ) (entry : Row) →
+    (r : List ℕ) (k : Status) (read : ℕ → ℕ) (pc next row s d external b : ℕ) (entry : Row) →
     row % 8 ≡ 5 →
     let g : Fetched = sourceOf r read pc next (k .d) row s in
     let x : ℕ = destinationOf r next g d in
     let after : Status = statusAfter k entry (operateOf r k read pc next row s d) in
     x < 65536 →
     g .value < 65536 →
-    (takenOf after external 5 ≡ ltb (signed x) (signed (g .value)))
-    × (takenOf after external 1 ≡ not (ltb x (g .value)))
+    (b % 32 ≡ 5 → takenOf after external b ≡ ltb (signed x) (signed (g .value)))
+    × (b % 32 ≡ 1 → takenOf after external b ≡ not (ltb x (g .value)))
 
 -- eight registers, each a 16-bit word: so it is of each `State`, by its type
 pub record Sound (st : State) : Type 0 where

@@ -24,7 +24,8 @@ use Rattle.listing.proofs.Tests.{clash, same-true, same-eq}
 use Rattle.listing.proofs.Table.{base-at, base-low}
 use Rattle.listing.proofs.Entries.{entry-in}
 use Rattle.listing.proofs.Back.{read-row, read-16}
-use Rattle.listing.proofs.Trip.{entryWith, cutWith, entry-with, cut-with, Trip, trip}
+use Rattle.listing.proofs.EntryWith.{entryWith, cutWith, entry-with, cut-with, Trip}
+use Rattle.listing.proofs.Trip.{trip}
 
 three-entry : (w p q : ℕ) (double : Bool) → w < 1024 → entryAt (peekOf (w ∷ p ∷ q ∷ [])) 0 double ≡ entryWith w p q double
 unfolding peekOf wrapAdd

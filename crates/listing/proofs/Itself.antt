@@ -16,7 +16,8 @@ use Rattle.listing.specs.Answer.{assembled}
 use Rattle.listing.specs.Disassemble.{entryAt, textAt}
 use Rattle.listing.specs.Assemble.{assembleOf}
 use Rattle.listing.specs.Laws.{Stand, AssembledListsAsItself}
-use Rattle.listing.proofs.Trip.{entryWith, cutWith, entry-with, cut-with, Agree, cut-length, agree-entry}
+use Rattle.listing.proofs.EntryWith.{entryWith, cutWith, entry-with, cut-with}
+use Rattle.listing.proofs.Trip.{Agree, cut-length, agree-entry}
 use Rattle.listing.proofs.RoundTrip.{Found, found, cut-first}
 
 -- the line of row 85

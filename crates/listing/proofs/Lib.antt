@@ -6,6 +6,10 @@ pub mod Reading
 pub mod Keys
 pub mod Entries
 pub mod Back
+pub mod EntryWith
+pub mod JumpTrip
+pub mod Opcodes
+pub mod PlainTrip
 pub mod Trip
 pub mod Accept
 pub mod RoundTrip

@@ -25,7 +25,7 @@ use Rattle.listing.specs.Laws.{ListedComesBack, AcceptsListedLines, Same
 use Rattle.listing.proofs.Tests.{same-true, same-eq}
 use Rattle.listing.proofs.Entries.{entry-in}
 use Rattle.listing.proofs.Keys.{rowOfKey, guesses, own-row, guess-in}
-use Rattle.listing.proofs.Trip.{entryWith, cutWith, cut-with}
+use Rattle.listing.proofs.EntryWith.{entryWith, cutWith, cut-with}
 use Rattle.listing.proofs.Accept.{self-entry, self-cut, read-words, refused, assembled-by}
 
 comes-back : (read : ℕ → ℕ) (at : ℕ) (double : Bool) → read (wrapAdd at 1) < 65536 → assembleOf (textAt read at double) double ≡ assembled (cutAt read at double)

@@ -24,6 +24,10 @@ peek-other : (m : List ℕ) (a w b : ℕ) → (a ≡ b → ⊥) → peekOf (poke
 unfolding peekOf pokeOf
 peek-other m a w b h = getD-set-other m a b w 0xFFFF (λ e. h (sym e))
 
+poke-past : (m : List ℕ) (a w : ℕ) → length m ≤ a → pokeOf m a w ≡ m
+unfolding pokeOf
+poke-past m a w h = set-out m a w h
+
 poke-length : (m : List ℕ) (a w : ℕ) → length (pokeOf m a w) ≡ length m
 unfolding pokeOf
 poke-length m a w = length-set m a w
@@ -41,4 +45,11 @@ unfolding peekOf pokeOf
 poke-words m a w h p = λ b. set-words m a w b 0xFFFF p (h b)
 
 pub poke-laws : PokeLaws
-poke-laws = record { same = peek-same; other = peek-other; keeps-length = poke-length; keeps-words = poke-words }
+poke-laws =
+    record {
+      same = peek-same;
+      other = peek-other;
+      past-end = poke-past;
+      keeps-length = poke-length;
+      keeps-words = poke-words;
+    }

@@ -1,7 +1,8 @@
--- No two refusals share a number: each is found again from its number.
+-- No two refusals share a number: each is found again from its number. And every number is low.
 use Prim.Native.Nat.{ℕ}
 use mathlib.Core.Path.{_≡_, refl, ap, sym, _∙_}
 use mathlib.Core.List.{List, [], _∷_}
+use lib.Dec.{lit<}
 use lib.ListN.{getD}
 use Rattle.refusal.specs.declared.Refusal.{Refusal}
 use Rattle.refusal.specs.declared.Refusal.the-variants.{
@@ -19,7 +20,7 @@ use Rattle.refusal.specs.declared.Refusal.the-variants.{
   SumDiffers,
   ImageRoomTooSmall,
 }
-use Rattle.refusal.specs.Refusals.{refusalNumber, NumbersApart}
+use Rattle.refusal.specs.Refusals.{refusalNumber, NumbersApart, NumbersLow}
 
 -- the refusal of a number; no refusal has the number 0
 numbered : ℕ → Refusal
@@ -61,3 +62,18 @@ found ImageRoomTooSmall = refl
 
 pub numbers-apart : NumbersApart
 numbers-apart a b e = sym (found a) ∙ ap numbered e ∙ found b
+
+pub numbers-low : NumbersLow
+numbers-low MemoryTooLong = lit< tt
+numbers-low Halted = lit< tt
+numbers-low Unspecified = lit< tt
+numbers-low BudgetTooHigh = lit< tt
+numbers-low TextRoomTooSmall = lit< tt
+numbers-low NotAListingLine = lit< tt
+numbers-low FirstAboveLast = lit< tt
+numbers-low LimitTooHigh = lit< tt
+numbers-low MalformedImage = lit< tt
+numbers-low WrongBoard = lit< tt
+numbers-low PastMemory = lit< tt
+numbers-low SumDiffers = lit< tt
+numbers-low ImageRoomTooSmall = lit< tt

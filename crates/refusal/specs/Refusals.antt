@@ -1,5 +1,5 @@
 -- Document 01, "Refusal numbers": the number of each refusal.
-use Prim.Native.Nat.{ℕ}
+use Prim.Native.Nat.{ℕ, _<_}
 use mathlib.Core.Path.{_≡_}
 use Rattle.refusal.specs.declared.Refusal.{Refusal}
 use Rattle.refusal.specs.declared.Refusal.the-variants.{
@@ -49,3 +49,7 @@ refusalNumber ImageRoomTooSmall = 13
 -- no two refusals share a number
 abbrev pub NumbersApart : Type 0
 NumbersApart = (a b : Refusal) → refusalNumber a ≡ refusalNumber b → a ≡ b
+
+-- every number lies below 255, which is free for callers: the C interface answers it for a short buffer
+abbrev pub NumbersLow : Type 0
+NumbersLow = (r : Refusal) → refusalNumber r < 255

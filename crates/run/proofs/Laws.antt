@@ -1,13 +1,13 @@
 -- The laws of `specs/Laws`, by induction on the steps.
-use Prim.Native.Nat.{ℕ, zero, suc, _+_, _≤_, _<_}
+use Prim.Native.Nat.{ℕ, zero, suc, _+_, _-_, _≤_, _<_}
 use mathlib.Core.Path.{_≡_, refl, ap, ap₂, sym, subst, _∙_}
-use mathlib.Core.Bool.{Bool, true, false, cond, true≢false, false≢true}
+use mathlib.Core.Bool.{Bool, true, false, not, cond, _&&_, true≢false, false≢true}
 use mathlib.Core.List.{List, [], _∷_}
 use native.Mathlib.Omega.{arith}
 use native.Mathlib.Numerals.{add-one}
 use lib.Dec.{ltb, lit<}
 use lib.ListN.{length}
-use borrow.Author.Tests.{ltb-true}
+use borrow.Author.Tests.{ltb-true, ltb-false}
 use Rattle.refusal.specs.declared.Refusal.{Refusal}
 use Rattle.refusal.specs.declared.Refusal.the-variants.{MemoryTooLong, BudgetTooHigh, Halted as HaltedMachine}
 use Rattle.refusal.proofs.Laws.{numbers-apart}
@@ -19,14 +19,14 @@ use Rattle.cpu.specs.declared.Lines.{Lines}
 use Rattle.cpu.specs.Answer.{cyclesOf, isUnspecified}
 use Rattle.cpu.specs.Step.{stepOf}
 use Rattle.cpu.specs.Steps.{Moment, stepsFrom, lastState, lastMemory, cyclesOfAll}
-use Rattle.cpu.proofs.Laws.{cycles-most}
+use Rattle.cpu.proofs.Laws.{cycles-most, step-charges}
 use Rattle.run.specs.declared.Cause.{Cause}
 use Rattle.run.specs.declared.Cause.the-variants.{Halted, Unspecified, Budget}
 use Rattle.run.specs.declared.RunAnswer.{RunAnswer}
 use Rattle.run.specs.declared.RunAnswer.the-variants.{Refused, Ended}
 use Rattle.run.specs.Run.{RunReported, refused, ended, runReported, RunAnswersApart, RunOutcome, refuse, causeOf, finish, goesOn, runFrom, runOn, runOf}
-use Rattle.run.specs.Laws.{repeated, Made, MakesItsSteps, CyclesBelow, CauseSays, CauseIsRight, NoBudgetNoChange}
-use Rattle.run.proofs.RunLaws.{goes-on, ends-halted, ends-unspecified, ends-budget}
+use Rattle.run.specs.Laws.{repeated, Made, MakesItsSteps, CyclesBelow, CauseSays, CauseIsRight, BudgetIsSpent, NoBudgetNoChange}
+use Rattle.run.proofs.RunLaws.{goes-on, kept, ends-halted, ends-unspecified, ends-budget}
 
 -- what holds of each way that a run can go holds of the run
 by-run : (P : RunOutcome → Type 0) (st : State) (m : List ℕ) (l : Lines) (budget : ℕ) → ((r : Refusal) → P (refuse st m r)) → P (runOn st m l budget 0 0) → P (runOf st m l budget)
@@ -176,6 +176,47 @@ cause-is-right st m l budget steps cycles cause =
     by-run (λ (o : RunOutcome). o .answer ≡ ended steps cycles cause → CauseSays o l cause) st m l budget
     (λ r e. no-end e)
     (λ e. right-cause st m l _ steps cycles cause (started st m l budget) e)
+
+all-on : (a b c : Bool) → a ≡ true → b ≡ false → c ≡ false → (a && (not b && not c)) ≡ true
+all-on a b c p q r = rw (p, q, r)
+
+-- a run that goes on no further, and neither is halted nor meets an unspecified form, has spent its budget
+stopped : (st : State) (m : List ℕ) (l : Lines) (budget cycles : ℕ) → goesOn st m l budget cycles ≡ false → causeOf st m l ≡ Budget → budget ≤ cycles
+unfolding goesOn
+stopped st m l budget cycles g c =
+    go (ltb cycles budget) (st .status .halted) (isUnspecified (stepOf st m l .answer)) refl refl refl
+  where
+    go : (b h u : Bool) → ltb cycles budget ≡ b → st .status .halted ≡ h → isUnspecified (stepOf st m l .answer) ≡ u → budget ≤ cycles
+    go false h u p q r = ltb-false cycles budget p
+    go true true u p q r = halted-budget (sym c ∙ ends-halted st m l q)
+    go true false true p q r = unspecified-budget (sym c ∙ ends-unspecified st m l q r)
+    go true false false p q r = absurd (true≢false (sym (all-on _ _ _ p q r) ∙ g))
+
+-- what a report says of the budget
+abbrev SpentIt : ℕ → RunReported → Type 0
+SpentIt budget (refused n) = Unit
+SpentIt budget (ended steps cycles cause) = cause ≡ Budget → budget ≤ cycles
+
+spends : (n : ℕ) (st : State) (m : List ℕ) (l : Lines) (budget steps cycles : ℕ) → tooLong m ≡ false → budget ≤ cycles + n → SpentIt budget (runFrom n st m l budget steps cycles .answer)
+unfolding runFrom finish
+spends zero st m l budget steps cycles s h = λ e. omega arith
+spends (suc n) st m l budget steps cycles s h =
+    turn _ (goesOn st m l budget cycles) refl
+    (λ p. spends n (stepOf st m l .state) (stepOf st m l .memory) l budget (steps + 1) (cycles + cyclesOf (stepOf st m l .answer)) (kept st m l s) (omega (arith, p)))
+  where
+    turn : (o : RunOutcome) (b : Bool) → goesOn st m l budget cycles ≡ b → (1 ≤ cyclesOf (stepOf st m l .answer) → SpentIt budget (o .answer)) → SpentIt budget (cond b o (finish st m l steps cycles) .answer)
+    turn o true g r = let a = goes-on st m l budget cycles g in r (step-charges st m l s (a .1) (a .2))
+    turn o false g r = stopped st m l budget cycles g
+
+pub budget-is-spent : BudgetIsSpent
+unfolding runOf runOn refuse
+budget-is-spent st m l budget steps cycles e = subst (SpentIt budget) e (go (tooLong m) refl) refl
+  where
+    go : (b : Bool) → tooLong m ≡ b → SpentIt budget (cond b (refuse st m MemoryTooLong) (cond (ltb 1000000 budget) (refuse st m BudgetTooHigh) (cond (st .status .halted) (refuse st m HaltedMachine) (runOn st m l budget 0 0))) .answer)
+    go true s = tt
+    go false s =
+        cond-both (λ (o : RunOutcome). SpentIt budget (o .answer)) (ltb 1000000 budget) tt
+        (cond-both (λ (o : RunOutcome). SpentIt budget (o .answer)) (st .status .halted) tt (spends (budget - 0) st m l budget 0 0 s (omega arith)))
 
 pub no-budget-no-change : NoBudgetNoChange
 unfolding refuse runOn runFrom finish

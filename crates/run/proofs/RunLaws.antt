@@ -47,7 +47,7 @@ unfolding goesOn
 goes-on st m l budget cycles e = both (ltb cycles budget) (st .status .halted) (isUnspecified (stepOf st m l .answer)) e
 
 -- the memory stays one that is not refused
-kept : (st : State) (m : List ℕ) (l : Lines) → tooLong m ≡ false → tooLong (stepOf st m l .memory) ≡ false
+pub kept : (st : State) (m : List ℕ) (l : Lines) → tooLong m ≡ false → tooLong (stepOf st m l .memory) ≡ false
 kept st m l p = ap (λ (n : ℕ). ltb 65536 n) (keeps-length st m l) ∙ p
 
 -- no more steps

@@ -1,5 +1,5 @@
 -- What holds of every run.
-use Prim.Native.Nat.{ℕ, zero, suc, _+_, _<_}
+use Prim.Native.Nat.{ℕ, zero, suc, _+_, _<_, _≤_}
 use mathlib.Core.Path.{_≡_}
 use mathlib.Core.Logic.{_↔_}
 use mathlib.Core.Bool.{Bool, true, false, cond}
@@ -62,6 +62,13 @@ CauseIsRight =
     (st : State) (m : List ℕ) (l : Lines) (budget steps cycles : ℕ) (cause : Cause) →
     runOf st m l budget .answer ≡ ended steps cycles cause →
     CauseSays (runOf st m l budget) l cause
+
+-- a run that its budget ended has spent it
+abbrev pub BudgetIsSpent : Type 0
+BudgetIsSpent =
+    (st : State) (m : List ℕ) (l : Lines) (budget steps cycles : ℕ) →
+    runOf st m l budget .answer ≡ ended steps cycles Budget →
+    budget ≤ cycles
 
 -- a run of budget 0 changes nothing
 abbrev pub NoBudgetNoChange : Type 0

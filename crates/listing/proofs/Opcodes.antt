@@ -1,0 +1,127 @@
+-- Every opcode but the jump's: the rule of the table, tested over all of them, and what follows of one.
+use Prim.Native.Nat.{ℕ, suc, _+_, _*_, _/_, _%_, _<_}
+use mathlib.Core.Path.{_≡_, refl, ap}
+use mathlib.Core.Bool.{Bool, true, false, cond, not, _&&_, _||_}
+use native.Mathlib.Omega.{arith}
+use lib.Dec.{T, eqb, leb, ltb, eqb→eq, leb→le}
+use Rattle.memory.specs.Memory.{peekOf}
+use Rattle.decode.specs.declared.Instr.{Instr}
+use Rattle.decode.specs.declared.Instr.the-variants.{Control, Single, Shift, Branch, Store, Operate}
+use Rattle.decode.specs.Decode.{instructionOf, lowInstruction, unspecifiedOf, decodeAt}
+use Rattle.decode.specs.Rows.{heardRow, unheardRow, controlRow, shiftRow, branchRow, memoryWords, storeRow, readWords, operateRow, rowOf}
+use Rattle.listing.specs.Rows.{rows, templateOf, baseOf}
+use Rattle.listing.specs.declared.line.Line.{Line}
+use Rattle.listing.specs.Line.{lineWith, digitOf, signOf, fieldOf, glyphOf, textOf}
+use Rattle.listing.specs.Disassemble.{controlLine, singleLine, shiftLine, branchLine, memoryLine, operateLine, lineOf}
+use Rattle.listing.specs.Assemble.{valueOf, takenOf, readOf, wordCount}
+use Rattle.listing.proofs.Tests.{below, below-at, both-left, both-right, imp, imp-at}
+use Rattle.listing.proofs.Table.{occurs}
+use Rattle.listing.proofs.Back.{backs}
+
+-- a jump's opcode is 004 alone
+abbrev isJump : Instr → Bool
+isJump (Control d) = eqb d 4
+isJump (Single s d) = false
+isJump (Shift s d) = false
+isJump (Branch b) = false
+isJump (Store s d) = false
+isJump (Operate k s d) = false
+
+-- of any other instruction the words after the opcode count only through the operand
+unfoldable pub withOperand : Line → ℕ → Line
+withOperand l x = lineWith (l .row) (l .s) (l .d) x
+
+chosen : (c : Bool) (l m : ℕ → Line) (x : ℕ) → l x ≡ withOperand (l 0) x → m x ≡ withOperand (m 0) x
+    → cond c (l x) (m x) ≡ withOperand (cond c (l 0) (m 0)) x
+chosen true l m x p q = p
+chosen false l m x p q = q
+
+memory-shape : (k s d x : ℕ) → memoryLine k s d x ≡ withOperand (memoryLine k s d 0) x
+unfolding memoryLine withOperand
+memory-shape k s d x =
+    chosen (eqb s 0) (λ y. lineWith (55 + k % 8 * 3) 0 d y)
+    (λ y. cond (eqb s 7) (lineWith (55 + k % 8 * 3 + 2) 0 d y) (lineWith (55 + k % 8 * 3 + 1) s d y))
+    x refl
+    (chosen (eqb s 7) (λ y. lineWith (55 + k % 8 * 3 + 2) 0 d y) (λ y. lineWith (55 + k % 8 * 3 + 1) s d y) x refl refl)
+
+line-shape : (i : Instr) (x a b : ℕ) → isJump i ≡ false → lineOf i x a b ≡ withOperand (lineOf i 0 0 0) x
+unfolding controlLine singleLine shiftLine branchLine operateLine withOperand
+line-shape (Control d) x a b e =
+    rw e (chosen (ltb d 4) (λ y. lineWith d 0 0 y) (λ y. lineWith ((d % 8 + 7) % 8) 0 0 y) x refl refl)
+line-shape (Single s d) x a b e =
+    chosen (eqb s 6 && leb 4 d) (λ y. lineWith (14 + d % 4) 0 0 y) (λ y. lineWith (6 + s % 8) 0 d y) x refl refl
+line-shape (Shift s d) x a b e = refl
+line-shape (Branch c) x a b e =
+    chosen (eqb (c / 16 % 2) 1) (λ y. lineWith (56 + c % 16 / 10) (c / 32 % 2 * 4) (c % 16 % 10) y)
+    (λ y. lineWith (40 + c % 16) (c / 32 % 2 * 4) 0 y) x refl refl
+line-shape (Store s d) x a b e = memory-shape 1 s d x
+line-shape (Operate k s d) x a b e =
+    chosen (ltb k 8) (λ y. lineWith (32 + k % 8) s d y) (λ y. memoryLine k s d y) x refl (memory-shape k s d x)
+
+-- the row and the fields of an opcode
+unfoldable pub shape : ℕ → Line
+shape w = lineOf (instructionOf w) 0 0 0
+
+-- How many words an opcode's instruction has, and that they show: one, or two or three with the operand in the line.
+abbrev counts : ℕ → Bool → Bool
+counts w double =
+    cond (eqb (rowOf (instructionOf w) double .words) 1) true
+    (occurs 119 (templateOf (shape w .row))
+    && (eqb (rowOf (instructionOf w) double .words) 2 || eqb (rowOf (instructionOf w) double .words) 3))
+
+-- The rule of the table, over all opcodes but 004: the row is none of the jump's, the row's number with the fields is the opcode, the
+-- fields are read back, and the operand shows where there is one.
+abbrev rule : ℕ → Bool
+rule w =
+    imp (not (eqb w 4))
+    ((not (isJump (instructionOf w)) && ltb (shape w .row) 79)
+    && ((eqb (baseOf (shape w .row) + shape w .s % 16 * 8 + shape w .d % 16) w && backs (shape w .row) (shape w .s) (shape w .d))
+    && (counts w false && counts w true)))
+
+rule-test : T (below rule 1024)
+unfolding shape instructionOf lowInstruction controlLine singleLine shiftLine branchLine memoryLine operateLine controlRow heardRow unheardRow shiftRow branchRow memoryWords storeRow readWords operateRow baseOf readOf takenOf valueOf textOf glyphOf fieldOf digitOf signOf templateOf rows
+rule-test = tt
+
+module _ (w : ℕ) (h : w < 1024) (e : eqb w 4 ≡ false) where
+  ruled : T ((not (isJump (instructionOf w)) && ltb (shape w .row) 79)
+      && ((eqb (baseOf (shape w .row) + shape w .s % 16 * 8 + shape w .d % 16) w && backs (shape w .row) (shape w .s) (shape w .d))
+      && (counts w false && counts w true)))
+  ruled = imp-at (not (eqb w 4)) _ (below-at rule 1024 rule-test w h) (ap not e)
+
+  placed : T (not (isJump (instructionOf w)) && ltb (shape w .row) 79)
+  placed = both-left (not (isJump (instructionOf w)) && ltb (shape w .row) 79) _ ruled
+
+  fielded : T (eqb (baseOf (shape w .row) + shape w .s % 16 * 8 + shape w .d % 16) w && backs (shape w .row) (shape w .s) (shape w .d))
+  fielded = both-left (eqb (baseOf (shape w .row) + shape w .s % 16 * 8 + shape w .d % 16) w && backs (shape w .row) (shape w .s) (shape w .d)) (counts w false && counts w true) (both-right (not (isJump (instructionOf w)) && ltb (shape w .row) 79) _ ruled)
+
+  counted : T (counts w false && counts w true)
+  counted = both-right (eqb (baseOf (shape w .row) + shape w .s % 16 * 8 + shape w .d % 16) w && backs (shape w .row) (shape w .s) (shape w .d)) (counts w false && counts w true) (both-right (not (isJump (instructionOf w)) && ltb (shape w .row) 79) _ ruled)
+
+  no-jump : isJump (instructionOf w) ≡ false
+  no-jump = go (isJump (instructionOf w)) (both-left (not (isJump (instructionOf w))) (ltb (shape w .row) 79) placed)
+    where
+      go : (b : Bool) → T (not b) → b ≡ false
+      go true t = absurd t
+      go false t = refl
+
+  pub row-79 : shape w .row < 79
+  row-79 = leb→le (suc (shape w .row)) 79 (both-right (not (isJump (instructionOf w))) (ltb (shape w .row) 79) placed)
+
+  pub opcode : baseOf (shape w .row) + shape w .s % 16 * 8 + shape w .d % 16 ≡ w
+  opcode = eqb→eq (baseOf (shape w .row) + shape w .s % 16 * 8 + shape w .d % 16) w (both-left (eqb (baseOf (shape w .row) + shape w .s % 16 * 8 + shape w .d % 16) w) (backs (shape w .row) (shape w .s) (shape w .d)) fielded)
+
+  pub fields : T (backs (shape w .row) (shape w .s) (shape w .d))
+  fields = both-right (eqb (baseOf (shape w .row) + shape w .s % 16 * 8 + shape w .d % 16) w) (backs (shape w .row) (shape w .s) (shape w .d)) fielded
+
+  pub counts-at : (double : Bool) → T (counts w double)
+  counts-at false = both-left (counts w false) (counts w true) counted
+  counts-at true = both-right (counts w false) (counts w true) counted
+
+  -- the opcode by itself is decoded as the instruction
+  pub count-at : (double : Bool) → wordCount w double ≡ rowOf (instructionOf w) double .words
+  unfolding wordCount decodeAt unspecifiedOf peekOf
+  count-at double = let m : w % 1024 ≡ w = omega arith in rw (m, e)
+
+  pub plain-line : (x a b : ℕ) → lineOf (instructionOf w) x a b ≡ withOperand (shape w) x
+  unfolding shape
+  plain-line x a b = line-shape (instructionOf w) x a b no-jump
