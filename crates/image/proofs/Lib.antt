@@ -3,6 +3,7 @@ pub mod ByteLaws
 pub mod ReadLaws
 pub mod PassLaws
 pub mod LoadLaws
+pub mod FirstLaws
 pub mod EmitLaws
 pub mod TripLaws
 pub mod DamageLaws

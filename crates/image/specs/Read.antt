@@ -1,6 +1,7 @@
 -- A file read in its own order: the head, then records up to the tail, or the first offence.
 -- "9: missing or wrong mark, cut file, count 0 or above 1,024, bytes after OK"; "11: record .. past the lent memory".
-use Prim.Native.Nat.{ℕ, zero, suc, _+_, _*_}
+use Prim.Native.Nat.{ℕ, zero, suc, _+_, _*_, _≤_}
+use mathlib.Core.Path.{_≡_}
 use mathlib.Core.Bool.{cond}
 use mathlib.Core.List.{List, [], _∷_}
 use lib.Dec.{eqb, ltb}
@@ -44,6 +45,16 @@ partOf len bytes =
     (cond (eqb (wordAt bytes 0) atMark) (recordOf len bytes)
     (cond (eqb (wordAt bytes 0) okMark) (tailOf bytes) (Offence MalformedImage)))
 
+-- the record at the front of the bytes, by its address and its count, or that none stands there
+pub data First : Type 0 where
+  first : ℕ → ℕ → First
+  none : First
+
+abbrev pub firstOf : Part → First
+firstOf (AtRecord address count) = first address count
+firstOf (Tail stated) = none
+firstOf (Offence e) = none
+
 -- all that follows a head: its records with the sum that the tail states, or the first offence in file order
 pub data Body : Type 0 where
   whole : List Record → ℕ → Body
@@ -67,3 +78,10 @@ bodyFrom (suc n) len bytes = follow (bodyFrom n len) bytes (partOf len bytes)
 
 unfoldable pub bodyOf : ℕ → List ℕ → Body
 bodyOf len bytes = bodyFrom (length bytes) len bytes
+
+-- a file that is there whole: its head, and its records with the sum that its tail states
+pub record WholeFile (len : ℕ) (file : List ℕ) : Type 0 where
+  pub head : 4 ≤ length file
+  pub records : List Record
+  pub stated : ℕ
+  pub body : bodyOf len (drop 4 file) ≡ whole records stated

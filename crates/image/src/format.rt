@@ -17,9 +17,9 @@ pub(crate) const AT_MARK: u16 = 0x4154;
 pub(crate) const OK_MARK: u16 = 0x4F4B;
 
 // ID and the board; AT, address and count; OK and the sum.
-pub(crate) const HEAD_BYTES: usize = 4;
+pub const HEAD_BYTES: usize = 4;
 
-pub(crate) const RECORD_HEAD_BYTES: usize = 6;
+pub const RECORD_HEAD_BYTES: usize = 6;
 
 pub(crate) const TAIL_BYTES: usize = 4;
 

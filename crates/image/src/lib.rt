@@ -4,19 +4,21 @@ ghost use mathlib.Core.Path.{_≡_};
 ghost use lib.Dec.{eqb};
 ghost use lib.ListN.{length};
 ghost use Rattle.word.specs.Word.{wrapAdd};
-ghost use Rattle.image.specs.Read.{bodyOf};
+ghost use Rattle.image.specs.Read.{partOf, firstOf, bodyOf};
+ghost use Rattle.image.specs.Answer.{firstReported};
 ghost use Rattle.image.specs.Load.{isFor, loaded, sumTested, loadOf};
 ghost use Rattle.image.specs.Write.{written, writeOf};
 use refusal::Refusal;
 
 mod check;
 mod emit;
-mod format;
+pub mod format;
 mod parse;
 mod store;
 
 use crate::check::Checked;
 use crate::parse::Head;
+use crate::parse::Part;
 
 // The number of records, or why the file was refused.
 pub enum LoadAnswer {
@@ -28,6 +30,12 @@ pub enum LoadAnswer {
 pub enum WriteAnswer {
     Refused(Refusal),
     Written(usize),
+}
+
+// The record at the front of some bytes, if one stands there: where its words go, and how many they are.
+pub enum FirstRecord {
+    Record { address: u16, count: u16 },
+    NoRecord,
 }
 
 // The board test: whether the file belongs on this board.
@@ -84,6 +92,21 @@ pub fn load(board: u16, mem: &mut [u16], file: &[u8]) -> LoadAnswer
         load_body(named, mem, &file[format::HEAD_BYTES..])
     } else {
         LoadAnswer::Refused(Refusal::WrongBoard)
+    }
+}
+
+// The record at the front of a file's bytes, after the head or another record, for a memory of `size` words.
+pub fn first_record(bytes: &[u8], size: usize) -> FirstRecord
+    ensures { λ r. ⌜ firstReported r ≡ firstOf (partOf size (now (bytes .entry))) ⌝ }
+{
+    let part = parse::read_part(bytes, size);
+    match part {
+        Part::Record { address, count } => FirstRecord::Record {
+            address: address,
+            count: count,
+        },
+        Part::Tail(_) => FirstRecord::NoRecord,
+        Part::Offence(_) => FirstRecord::NoRecord,
     }
 }
 

@@ -1,5 +1,7 @@
 // The disassembler (document 01's lister) and the one-line assembler: what line stands for which words.
 ghost use mathlib.Core.Path.{_≡_};
+ghost use Prim.Native.Nat.{_%_};
+ghost use Rattle.listing.specs.Line.{digitOf};
 ghost use Rattle.listing.specs.Answer.{assembled, assemblyReported};
 ghost use Rattle.listing.specs.Disassemble.{disassembly, disassembleOf};
 ghost use Rattle.listing.specs.Assemble.{firstWords, assembleOf};
@@ -51,6 +53,13 @@ pub fn disassemble(mem: &[u16], at: u16, double: bool, text: &mut [u8]) -> Listi
         words: entry.words,
         double: entry.double,
     }
+}
+
+// The low four bits as a hexadecimal digit, in upper case as every line has them.
+pub fn hex_digit(value: u16) -> u8
+    ensures { λ r. ⌜ r ≡ digitOf (value % 16) ⌝ }
+{
+    line::digit(value % 16)
 }
 
 // The first one, two or three words.

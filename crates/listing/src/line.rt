@@ -28,7 +28,7 @@ pub(crate) fn line_with(row: usize, s: u16, d: u16, operand: u16) -> Line
 }
 
 // A hexadecimal digit, upper case.
-fn digit(value: u16) -> u8
+pub(crate) fn digit(value: u16) -> u8
     requires { ⌜ value < 16 ⌝ }
     ensures { λ r. ⌜ r ≡ digitOf value ⌝ }
 {

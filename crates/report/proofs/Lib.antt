@@ -1,0 +1,5 @@
+-- Laws of the room, of the lines, of the calls, and of the two loops.
+pub mod PageLaws
+pub mod LineLaws
+pub mod CallLaws
+pub mod WalkLaws

@@ -1,0 +1,159 @@
+-- How long the lines are, how many there are, and that each instruction has a word or more.
+use Prim.Native.Nat.{ℕ, zero, suc, _+_, _-_, _*_, _≤_, _<_}
+use mathlib.Core.Path.{_≡_, refl, sym, ap, _∙_}
+use mathlib.Core.Bool.{Bool, true, false, cond, _&&_, _||_}
+use mathlib.Core.List.{List, [], _∷_, _++_, append-assoc}
+use native.Mathlib.Omega.{arith}
+use borrow.Author.Tests.{lt-ltb, le-ltb}
+use lib.Dec.{eqb, ltb, lit≤}
+use lib.ListN.{length, length-append}
+use Rattle.word.specs.Word.{wrapAdd}
+use Rattle.word.proofs.Choice.{cond-both, cond-true, cond-false}
+use Rattle.memory.specs.Memory.{peekOf}
+use Rattle.image.specs.Format.{Record}
+use Rattle.decode.specs.declared.Instr.{Instr}
+use Rattle.decode.specs.declared.Instr.the-variants.{Control, Single, Shift, Branch, Store, Operate}
+use Rattle.decode.specs.declared.Decoded.{Decoded}
+use Rattle.decode.specs.declared.Decoded.the-variants.{Unspecified, Known}
+use Rattle.decode.specs.declared.rows.Row.{Row}
+use Rattle.decode.specs.Decode.{decodeAt}
+use Rattle.decode.specs.Rows.{heardRow, unheardRow, controlRow, shiftRow, branchRow, isNopp, memoryWords, storeRow, readWords, operateRow, rowOf}
+use Rattle.listing.specs.Disassemble.{entryFor, entryOf, entryAt, textAt}
+use Rattle.listing.proofs.Entries.{entry-in}
+use Rattle.listing.proofs.Lines.{text-length}
+use Rattle.listing.proofs.Table.{template-most}
+use Rattle.meter.specs.Answer.{Longest, noWait, longest, Lowest, noOver, overAt, Named}
+use Rattle.meter.specs.Meter.{answerFrom, namedOf}
+use Rattle.report.specs.declared.Report.{Report}
+use Rattle.report.specs.declared.Report.the-variants.{Listing, Metering}
+use Rattle.report.specs.Text.{space, hexOf, decimalOf, lineText, linesText}
+use Rattle.report.specs.Instructions.{instructionLine, linesFrom, instructionLines}
+use Rattle.report.specs.Regions.{meteringLimit, waitText, overText, namedLine, regionLine, regionLines}
+use Rattle.report.specs.Report.{recordLines, recordsLines, endNumber}
+
+-- every row has a word
+abbrev SomeWords : Row → Type 0
+SomeWords row = 1 ≤ row .words
+
+memory-some : (s : ℕ) → 1 ≤ memoryWords s
+unfolding memoryWords
+memory-some s = cond-both (λ n. 1 ≤ n) (eqb s 0 || eqb s 7) (lit≤ tt) (lit≤ tt)
+
+row-some : (i : Instr) (double : Bool) → SomeWords (rowOf i double)
+unfolding heardRow unheardRow controlRow shiftRow branchRow storeRow operateRow readWords
+row-some (Control d) double =
+    cond-both SomeWords (eqb d 0) (lit≤ tt) (cond-both SomeWords (eqb d 1) (lit≤ tt) (cond-both SomeWords (eqb d 4) (lit≤ tt) (lit≤ tt)))
+row-some (Single s d) double = lit≤ tt
+row-some (Shift s d) double = cond-both SomeWords (ltb d 4) (lit≤ tt) (lit≤ tt)
+row-some (Branch b) double = cond-both SomeWords (isNopp b) (lit≤ tt) (lit≤ tt)
+row-some (Store s d) double = cond-both SomeWords (eqb s 0) (memory-some s) (memory-some s)
+row-some (Operate k s d) double =
+    cond-both SomeWords (ltb k 8) (lit≤ tt) (cond-both (λ n. 1 ≤ n) (double && eqb s 7) (lit≤ tt) (memory-some s))
+
+pub words-some : (read : ℕ → ℕ) (at : ℕ) (double : Bool) → 1 ≤ entryAt read at double .words
+unfolding entryAt entryFor
+words-some read at double = go (decodeAt read at false)
+  where
+    go : (x : Decoded) → 1 ≤ entryOf x double (read (wrapAdd at 1)) (read (wrapAdd at 2)) .words
+    go Unspecified = lit≤ tt
+    go (Known i) = row-some i double
+
+pub hex-length : (w : ℕ) → length (hexOf w) ≡ 4
+unfolding hexOf
+hex-length w = refl
+
+pub field-length : (w : ℕ) → length (hexOf w ++ (space ∷ [])) ≡ 5
+unfolding hexOf
+field-length w = refl
+
+pub numbered-length : (name : List ℕ) (n : ℕ) → length (lineText (name ++ hexOf n)) ≡ length name + 5
+numbered-length name n = simp (length-append, hex-length) (omega arith)
+
+pub decimal-short : (n : ℕ) → length (decimalOf n) ≤ 2
+unfolding decimalOf
+decimal-short n = cond-both (λ (l : List ℕ). length l ≤ 2) (ltb n 10) (lit≤ tt) (lit≤ tt)
+
+-- the pieces of a line, as they are put
+pub instruction-pieces : (read : ℕ → ℕ) (at : ℕ) (double : Bool)
+    → (hexOf at ++ (space ∷ [])) ++ (textAt read at double ++ lineText []) ≡ lineText (instructionLine read at double)
+unfolding instructionLine
+instruction-pieces read at double = simp append-assoc
+
+pub named-pieces : (first last : ℕ) (named : Named)
+    → (hexOf first ++ (space ∷ [])) ++ ((hexOf last ++ (space ∷ [])) ++ (waitText (named .longest-wait) ++ ((space ∷ []) ++ (overText (named .lowest-over) ++ lineText []))))
+    ≡ lineText (namedLine first last named)
+unfolding namedLine
+named-pieces first last named = simp append-assoc
+
+pub text-short : (read : ℕ → ℕ) (at : ℕ) (double : Bool) → length (textAt read at double) ≤ 14
+text-short read at double =
+    rw (text-length (entryAt read at double .line)) (template-most (entryAt read at double .line .row) (entry-in read at double))
+
+pub line-short : (read : ℕ → ℕ) (at : ℕ) (double : Bool) → length (lineText (instructionLine read at double)) ≤ 20
+unfolding instructionLine
+line-short read at double =
+    simp (length-append, hex-length at) (omega (arith, text-short read at double))
+
+-- the lines from an address on, by the rule of their definition
+pub lines-on : (n : ℕ) (read : ℕ → ℕ) (end at : ℕ) (double : Bool) → 0 < n → at < end → linesFrom n read end at double
+    ≡ instructionLine read at double ∷ linesFrom (n - 1) read end (at + entryAt read at double .words) (entryAt read at double .double)
+lines-on zero read end at double z h = absurd (omega arith)
+lines-on (suc n) read end at double z h = let e : suc n - 1 ≡ n = omega arith in rw e (cond-true _ _ (lt-ltb at end h))
+
+pub lines-end : (n : ℕ) (read : ℕ → ℕ) (end at : ℕ) (double : Bool) → end ≤ at → linesFrom n read end at double ≡ []
+lines-end zero read end at double h = refl
+lines-end (suc n) read end at double h = cond-false _ _ (le-ltb at end h)
+
+lines-size : (n : ℕ) (read : ℕ → ℕ) (end at : ℕ) (double : Bool) → length (linesText (linesFrom n read end at double)) ≤ n * 20
+lines-size zero read end at double = lit≤ tt
+lines-size (suc n) read end at double =
+    let e = entryAt read at double in
+    let rest = linesFrom n read end (at + e .words) (e .double) in
+    let l = length-append (lineText (instructionLine read at double)) (linesText rest) in
+    cond-both (λ ls. length (linesText ls) ≤ suc n * 20) (ltb at end)
+    (omega (arith, line-short read at double, lines-size n read end (at + e .words) (e .double)))
+    (omega arith)
+
+lines-few : (n : ℕ) (read : ℕ → ℕ) (end at : ℕ) (double : Bool) → length (linesFrom n read end at double) ≤ n
+lines-few zero read end at double = lit≤ tt
+lines-few (suc n) read end at double =
+    let e = entryAt read at double in
+    cond-both (λ ls. length ls ≤ suc n) (ltb at end)
+    (omega (arith, lines-few n read end (at + e .words) (e .double)))
+    (omega arith)
+
+pub wait-short : (l : Longest) → length (waitText l) ≤ 17
+wait-short noWait = lit≤ tt
+wait-short (longest cycles start) = simp (length-append, hex-length) (lit≤ tt)
+
+pub over-short : (o : Lowest) → length (overText o) ≤ 9
+over-short noOver = lit≤ tt
+over-short (overAt start) = simp hex-length (lit≤ tt)
+
+named-short : (first last : ℕ) (named : Named) → length (lineText (namedLine first last named)) ≤ 38
+unfolding namedLine
+named-short first last named =
+    simp (length-append, hex-length) (omega (arith, wait-short (named .longest-wait), over-short (named .lowest-over)))
+
+-- a record of c words has 6 + c * 2 bytes in the file
+pub record-size : (report : Report) (m : List ℕ) (a c : ℕ) → 0 < c → length (linesText (recordLines report m a c)) ≤ (6 + c * 2) * 10
+unfolding instructionLines regionLine
+record-size Listing m a c h = omega (arith, lines-size c (peekOf m) (a + c) a false)
+record-size Metering m a c h =
+    let line = regionLine m a (a + (c - 1)) in
+    omega (arith, length-append (lineText line) [], named-short a (a + (c - 1)) (namedOf (answerFrom m meteringLimit) a (a + (c - 1))))
+
+pub record-few : (report : Report) (m : List ℕ) (a c : ℕ) → 0 < c → length (recordLines report m a c) ≤ c
+unfolding instructionLines
+record-few Listing m a c h = lines-few c (peekOf m) (a + c) a false
+record-few Metering m a c h = h
+
+-- the metering has one line for each record
+metering-counts : (m : List ℕ) (rs : List Record) → length rs ≡ length (recordsLines Metering m rs)
+metering-counts m [] = refl
+metering-counts m (r ∷ rs) = ap suc (metering-counts m rs)
+
+-- so that the number behind END is that of the lines in both
+pub end-number : (report : Report) (m : List ℕ) (rs : List Record) → endNumber report (recordsLines report m rs) rs ≡ length (recordsLines report m rs)
+end-number Listing m rs = refl
+end-number Metering m rs = metering-counts m rs

@@ -1,0 +1,66 @@
+-- Pieces put one behind the other are one piece.
+use Prim.Native.Nat.{ℕ, _+_, _≤_}
+use mathlib.Core.Path.{_≡_, refl, sym, ap, _∙_}
+use mathlib.Core.List.{List, [], _∷_, _++_, append-assoc, append-nil}
+use native.Mathlib.Omega.{arith}
+use lib.ListN.{length, length-append}
+use lib.Seq.{sets, length-sets, sets-eq, length-take-le}
+use Rattle.image.proofs.ByteLaws.{sets-split}
+use Rattle.report.specs.declared.page.Page.{Page}
+use Rattle.report.specs.Text.{lineText, linesText}
+use Rattle.report.specs.Report.{printing, printed, Within}
+use Rattle.report.specs.Page.{Puts, Adds}
+
+pub puts-none : (room : List ℕ) (at : ℕ) → at ≤ length room → Puts room at [] room at
+puts-none room at h = record { within = omega arith; place = omega arith; room = refl }
+
+pub puts-length : {before bytes after : List ℕ} {at to : ℕ} → Puts before at bytes after to → length after ≡ length before
+puts-length {before} {bytes} {after} {at} p = ap length (p .room) ∙ length-sets before at bytes
+
+pub puts-then : {r₀ r₁ r₂ xs ys : List ℕ} {a b c : ℕ} → Puts r₀ a xs r₁ b → Puts r₁ b ys r₂ c → Puts r₀ a (xs ++ ys) r₂ c
+puts-then {r₀} {r₁} {r₂} {xs} {ys} {a} {b} {c} p q =
+    record {
+      within = omega (arith, p .place, q .within, puts-length p, length-append xs ys);
+      place = omega (arith, p .place, q .place, length-append xs ys);
+      room = q .room ∙ rw (p .room, p .place) (sym (sets-split r₀ a xs ys));
+    }
+
+-- the same piece by another name
+pub puts-as : {r₀ r₁ xs ys : List ℕ} {a b : ℕ} → xs ≡ ys → Puts r₀ a xs r₁ b → Puts r₀ a ys r₁ b
+puts-as e p = rw e at p
+
+-- a text put at the front of the room is printed, and lies there
+pub puts-printed : {before text after : List ℕ} {size : ℕ} → Puts before 0 text after size → printed size after ≡ printing text before
+unfolding printing
+puts-printed {before} {text} {after} {size} p =
+    let e : size ≡ length text = omega (arith, p .place) in
+    let z : 0 + length text ≡ length text = omega arith in
+    rw (e, p .room, sets-eq text before 0 (p .within), z)
+
+pub puts-within : {before text after : List ℕ} {size : ℕ} → Puts before 0 text after size → Within size after
+puts-within {before} {text} {after} {size} p =
+    let h : size ≤ length after = omega (arith, p .place, p .within, puts-length p) in
+    (h, sym (length-take-le size after h))
+
+lines-append : (ls ms : List (List ℕ)) → linesText (ls ++ ms) ≡ linesText ls ++ linesText ms
+lines-append [] ms = refl
+lines-append (l ∷ ls) ms = rw (lines-append ls ms) (sym (append-assoc (lineText l) (linesText ls) (linesText ms)))
+
+length-both : (ls ms : List (List ℕ)) → length (ls ++ ms) ≡ length ls + length ms
+length-both [] ms = omega arith
+length-both (l ∷ ls) ms = omega (arith, length-both ls ms)
+
+pub adds-none : (room : List ℕ) (page : Page) → page .at ≤ length room → Adds room page [] room page
+adds-none room page h = record { puts = puts-none room (page .at) h; count = omega arith }
+
+pub adds-then : {r₀ r₁ r₂ : List ℕ} {p q r : Page} {ls ms : List (List ℕ)} → Adds r₀ p ls r₁ q → Adds r₁ q ms r₂ r → Adds r₀ p (ls ++ ms) r₂ r
+adds-then {ls = ls} {ms = ms} a b =
+    record {
+      puts = puts-as (sym (lines-append ls ms)) (puts-then (a .puts) (b .puts));
+      count = omega (arith, a .count, b .count, length-both ls ms);
+    }
+
+-- one line more
+pub adds-line : {r₀ r₁ line : List ℕ} {page : Page} {to lines : ℕ} → Puts r₀ (page .at) (lineText line) r₁ to → lines ≡ page .lines + 1
+    → Adds r₀ page (line ∷ []) r₁ (record { at = to; lines = lines })
+adds-line {line = line} p e = record { puts = puts-as (sym (append-nil (lineText line))) p; count = e }

@@ -1,0 +1,155 @@
+-- The two loops: over the instructions of a record, and over the records of a file. Each invariant is a record, with what a turn does to it.
+use Prim.Native.Nat.{ℕ, _+_, _-_, _*_, _<_, _≤_}
+use mathlib.Core.Path.{_≡_, refl, sym, ap, _∙_}
+use mathlib.Core.Bool.{Bool, true, false}
+use mathlib.Core.List.{List, [], _∷_, _++_, append-assoc, append-nil}
+use native.Mathlib.Omega.{arith}
+use lib.ListN.{length, take, drop, length-drop}
+use lib.Seq.{drop-drop}
+use Rattle.memory.specs.Memory.{peekOf}
+use Rattle.listing.specs.Disassemble.{entryAt}
+use Rattle.image.specs.declared.FirstRecord.{FirstRecord}
+use Rattle.image.specs.declared.FirstRecord.the-variants.{Record as FoundRecord, NoRecord}
+use Rattle.image.specs.Format.{Record}
+use Rattle.image.specs.Read.{partOf, firstOf, whole, bodyOf}
+use Rattle.image.specs.Answer.{firstReported}
+use Rattle.image.proofs.ByteLaws.{rest, words-length}
+use Rattle.image.proofs.FirstLaws.{Behind, first-behind, none-behind}
+use Rattle.report.specs.declared.Report.{Report}
+use Rattle.report.specs.declared.page.Page.{Page}
+use Rattle.report.specs.declared.instructions.Next.{Next}
+use Rattle.report.specs.Text.{linesText}
+use Rattle.report.specs.Reading.{memoryWords, inputLimit, bodyRecords, recordsOf}
+use Rattle.report.specs.Instructions.{instructionLine, linesFrom, instructionLines}
+use Rattle.report.specs.Report.{recordLines, recordsLines}
+use Rattle.report.specs.Page.{Puts, Adds, emptyPage, Ready, Fills, Steps}
+use Rattle.report.proofs.PageLaws.{puts-length, adds-none, adds-then, adds-line}
+use Rattle.report.proofs.LineLaws.{words-some, line-short, lines-on, lines-end, record-size, record-few}
+
+-- The instructions of a record before the address `next` are listed.
+pub record Listed (m : List ℕ) (address count : ℕ) (room₀ : List ℕ) (page : Page) (room : List ℕ) (next : ℕ) (double : Bool) (at lines : ℕ) : Type 0 where
+  pub done : List (List ℕ)
+  pub left : ℕ
+  pub enough : address + count ≤ next + left
+  pub space : at + (address + count - next) * 20 ≤ length room₀
+  pub few : lines + (address + count - next) ≤ page .lines + count
+  pub adds : Adds room₀ page done room (record { at = at; lines = lines })
+  pub same : done ++ linesFrom left (peekOf m) (address + count) next double ≡ instructionLines m address count
+
+pub listed-none : (m : List ℕ) (address count : ℕ) (room : List ℕ) (page : Page) → page .at + count * 20 ≤ length room
+    → Listed m address count room page room address false (page .at) (page .lines)
+unfolding instructionLines
+listed-none m address count room page h =
+    let e : address + count - address ≡ count = omega arith in
+    record {
+      done = [];
+      left = count;
+      enough = omega arith;
+      space = rw e h;
+      few = rw e (omega arith);
+      adds = adds-none room page (omega arith);
+      same = refl;
+    }
+
+module _ {m : List ℕ} {address count : ℕ} {room₀ : List ℕ} {page : Page} {room : List ℕ} {next : ℕ} {double : Bool} {at lines : ℕ}
+    (k : Listed m address count room₀ page room next double at lines) where
+  pub listed-length : length room ≡ length room₀
+  listed-length = puts-length (k .adds .puts)
+
+  pub listed-on : {after : List ℕ} {line : Next} → next < address + count → Steps (peekOf m) next double room at after line
+      → Listed m address count room₀ page after (next + line .words) (line .double) (line .at) (lines + 1)
+  listed-on {after} {line} h s =
+      let read = peekOf m in
+      let w = words-some read next double in
+      let z = line-short read next double in
+      let p = s .puts .place in
+      let ew = s .words in
+      record {
+        done = k .done ++ (instructionLine read next double ∷ []);
+        left = k .left - 1;
+        enough = omega (arith, k .enough);
+        space = omega (arith, k .space);
+        few = omega (arith, k .few);
+        adds = adds-then (k .adds) (adds-line (s .puts) refl);
+        same =
+            append-assoc (k .done) _ _
+            ∙ rw (s .words, s .under, ← lines-on (k .left) read (address + count) next double (omega (arith, k .enough)) h) (k .same);
+      }
+
+  pub listed-end : address + count ≤ next → Adds room₀ page (instructionLines m address count) room (record { at = at; lines = lines })
+  listed-end h =
+      let e : k .done ≡ instructionLines m address count =
+      sym (append-nil (k .done)) ∙ rw (lines-end (k .left) (peekOf m) (address + count) next double h) at (k .same)
+      in
+      rw e at (k .adds)
+
+-- The records of a file before the byte `from` are printed.
+pub record Walked (report : Report) (file m room₀ : List ℕ) (at : ℕ) (room : List ℕ) (page : Page) (from : ℕ) : Type 0 where
+  pub done : List (List ℕ)
+  pub left : List Record
+  pub stated : ℕ
+  pub within : from ≤ length file
+  pub reads : bodyOf memoryWords (drop from file) ≡ whole left stated
+  pub size : page .at ≤ at + from * 10
+  pub few : page .lines * 2 ≤ from
+  pub adds : Adds room₀ (emptyPage at) done room page
+  pub same : done ++ recordsLines report m left ≡ recordsLines report m (recordsOf file)
+
+pub walked-none : (report : Report) (file m room : List ℕ) (at : ℕ) → at ≤ length room → Ready file m → Walked report file m room at room (emptyPage at) 4
+unfolding recordsOf
+walked-none report file m room at h r =
+    let w = r .whole-file in
+    record {
+      done = [];
+      left = w .records;
+      stated = w .stated;
+      within = w .head;
+      reads = w .body;
+      size = omega arith;
+      few = omega arith;
+      adds = adds-none room (emptyPage at) h;
+      same = rw (w .body);
+    }
+
+-- the code reads the next record off a slice from the byte `from` on
+module _ {report : Report} {file m room₀ : List ℕ} {at : ℕ} {room : List ℕ} {page : Page} {from : ℕ} (r : FirstRecord)
+    (k : Walked report file m room₀ at room page from) (n : length m ≡ memoryWords)
+    (e : firstReported r ≡ firstOf (partOf (length m) (take (length file - from) (drop from file)))) where
+  first-is : firstReported r ≡ firstOf (partOf memoryWords (drop from file))
+  first-is = rw (n, rest file from) at e
+
+  pub walked-record : {a c : ℕ} → r ≡ FoundRecord a c → Behind memoryWords (drop from file) a c (k .left) (k .stated)
+  walked-record f = first-behind memoryWords (drop from file) (k .reads) (ap firstReported (sym f) ∙ first-is)
+
+  pub walked-within : {a c : ℕ} → r ≡ FoundRecord a c → from + (6 + c * 2) ≤ length file
+  walked-within f = omega (arith, walked-record f .sound .complete, length-drop from file, k .within)
+
+  pub walked-on : {a c : ℕ} {after : List ℕ} {next : Page} → r ≡ FoundRecord a c → Adds room page (recordLines report m a c) after next
+      → Walked report file m room₀ at after next (from + (6 + c * 2))
+  walked-on {a} {c} {after} {next} f s =
+      let b = walked-record f in
+      record {
+        done = k .done ++ recordLines report m a c;
+        left = b .records;
+        stated = k .stated;
+        within = walked-within f;
+        reads = rw (← drop-drop (6 + c * 2) from file) (b .reads);
+        size = omega (arith, k .size, s .puts .place, record-size report m a c (b .sound .some));
+        few = omega (arith, k .few, s .count, record-few report m a c (b .sound .some));
+        adds = adds-then (k .adds) s;
+        same = append-assoc (k .done) _ _ ∙ rw (b .all, words-length c (drop 6 (drop from file))) at (k .same);
+      }
+
+  pub walked-end : r ≡ NoRecord → length file ≤ inputLimit → Fills room₀ at (recordsLines report m (recordsOf file)) room page
+  walked-end f l =
+      let z : k .left ≡ [] = none-behind memoryWords (drop from file) (k .reads) (ap firstReported (sym f) ∙ first-is) in
+      let d : k .done ≡ recordsLines report m (recordsOf file) = sym (append-nil (k .done)) ∙ rw z at (k .same) in
+      record {
+        adds = rw d at (k .adds);
+        size = omega (arith, k .size, k .within);
+        few = omega (arith, k .few, k .within);
+      }
+
+pub walked-length : {report : Report} {file m room₀ : List ℕ} {at : ℕ} {room : List ℕ} {page : Page} {from : ℕ}
+    → Walked report file m room₀ at room page from → length room ≡ length room₀
+walked-length k = puts-length (k .adds .puts)

@@ -1,0 +1,53 @@
+use native.Mathlib.Omega.{arith}
+use lib.Dec.{lit≤}
+use Rattle.memory.specs.Memory.{peekOf}
+use Rattle.report.proofs.LineLaws.{field-length, text-short, instruction-pieces}
+use Rattle.report.proofs.CallLaws.{listed-line, listed-surely}
+use Rattle.report.proofs.PageLaws.{puts-then, puts-as}
+use borrow.Author.Needs.{needs}
+use Rattle.report.proofs.instructions.put_line.Statement.{statement}
+use Rattle.report.proofs.instructions.put_line.Tie as tie
+
+part-put-bytes-end : tie.Need-part-put-bytes-end
+part-put-bytes-end c = let a = c .before .before .before .before .before .before .before .before .before .before .before .before .before .before .args in
+    omega (arith, listed-line _ _ _ _ _ (c .before .before .before .before .before .before .before .before .before .before .disassemble .ensures) (c .before .before .before .before .before .before .before .before .before .before .before .before .before .before .pre .0) (lit≤ tt) (c .before .before .before .before .before .before .before .listed .given .1) .size-is, text-short (peekOf (a .memory .now)) (a .address) (a .double))
+
+put-bytes-requires : tie.Need-put-bytes-requires
+put-bytes-requires c κs = let a = c .before .before .before .before .before .before .before .before .before .before .before .before .before .before .before .args in
+    let l = listed-line _ _ _ _ _ (c .before .before .before .before .before .before .before .before .before .before .before .disassemble .ensures) (c .before .before .before .before .before .before .before .before .before .before .before .before .before .before .before .pre .0) (lit≤ tt) (c .before .before .before .before .before .before .before .before .listed .given .1) in
+    rw (l .text-is) (omega (arith, c .before .before .before .before .before .put-field .ensures .place, field-length (a .address), text-short (peekOf (a .memory .now)) (a .address) (a .double)))
+
+end-line-requires : tie.Need-end-line-requires
+end-line-requires c κs = let a = c .before .before .before .before .before .before .before .before .before .before .before .before .before .before .before .before .before .before .before .args in
+    let l = listed-line _ _ _ _ _ (c .before .before .before .before .before .before .before .before .before .before .before .before .before .before .before .disassemble .ensures) (c .before .before .before .before .before .before .before .before .before .before .before .before .before .before .before .before .before .before .before .pre .0) (lit≤ tt) (c .before .before .before .before .before .before .before .before .before .before .before .before .listed .given .1) in
+    omega (arith, c .before .before .before .before .before .before .before .before .before .put-field .ensures .place, field-length (a .address), text-short (peekOf (a .memory .now)) (a .address) (a .double), rw (l .text-is) at (c .before .before .before .put-bytes .ensures .place))
+
+returns : tie.Need-returns
+returns c = let a = c .before .before .before .before .before .before .before .before .before .before .before .before .before .before .before .before .before .before .before .before .before .before .args in
+    let l = listed-line _ _ _ _ _ (c .before .before .before .before .before .before .before .before .before .before .before .before .before .before .before .before .before .before .disassemble .ensures) (c .before .before .before .before .before .before .before .before .before .before .before .before .before .before .before .before .before .before .before .before .before .before .pre .0) (lit≤ tt) (c .before .before .before .before .before .before .before .before .before .before .before .before .before .before .before .listed .given .1) in
+    record {
+      puts = puts-as (instruction-pieces (peekOf (a .memory .now)) (a .address) (a .double)) (puts-then (c .before .before .before .before .before .before .before .before .before .before .before .before .put-field .ensures) (puts-then (rw (l .text-is) at (c .before .before .before .before .before .before .put-bytes .ensures)) (c .before .before .end-line .ensures)));
+      words = l .words-are;
+      under = l .next-is;
+    }
+
+returns-2 : tie.Need-returns-2
+returns-2 c = listed-surely _ _ _ _ _ (c .before .before .before .disassemble .ensures) (c .before .before .before .before .before .before .before .pre .0) (lit≤ tt) (c .enum-told .given .1)
+
+pub put-line-spec : {M : Type 1} → statement M
+put-line-spec =
+    tie.close
+    (tie.spec
+    (λ c. search needs)
+    (λ c κs. search needs)
+    (λ c. search needs)
+    (λ c κs. search needs)
+    (λ c. search needs)
+    (λ c. search needs)
+    part-put-bytes-end
+    put-bytes-requires
+    end-line-requires
+    (λ c. search needs)
+    (λ c. search needs)
+    returns
+    returns-2)

@@ -1,0 +1,38 @@
+-- The metering's lines. Document 01: "for each record, as a region at limit 0, its first and last address, longest wait and start, lowest
+-- Over start".
+use Prim.Native.Nat.{ℕ, _+_, _-_}
+use mathlib.Core.List.{List, [], _∷_, _++_}
+use Rattle.listing.specs.Rows.{codes}
+use Rattle.meter.specs.Answer.{Longest, noWait, longest, Lowest, noOver, overAt, Named}
+use Rattle.meter.specs.Meter.{answerFrom, namedOf}
+use Rattle.report.specs.Text.{space, hexOf}
+
+-- "at limit 0"
+abbrev pub meteringLimit : ℕ
+meteringLimit = 0
+
+-- "With no Wait the middle is `WAIT NONE`."
+abbrev pub waitText : Longest → List ℕ
+waitText noWait = codes "WAIT NONE"
+waitText (longest cycles start) = codes "WAIT " ++ (hexOf cycles ++ (codes " AT " ++ hexOf start))
+
+abbrev pub overText : Lowest → List ℕ
+overText noOver = codes "OVER NONE"
+overText (overAt start) = codes "OVER " ++ hexOf start
+
+abbrev pub namedBy : Longest → Lowest → Named
+namedBy l o = record { longest-wait = l; lowest-over = o }
+
+-- "`0010 0010 WAIT 0006 AT 0010 OVER NONE`"
+unfoldable pub namedLine : ℕ → ℕ → Named → List ℕ
+namedLine first last named =
+    hexOf first
+    ++ (space ∷ (hexOf last ++ (space ∷ (waitText (named .longest-wait) ++ (space ∷ overText (named .lowest-over))))))
+
+-- the line of the region from first to last
+unfoldable pub regionLine : List ℕ → ℕ → ℕ → List ℕ
+regionLine m first last = namedLine first last (namedOf (answerFrom m meteringLimit) first last)
+
+-- a record of so many words, of which there is one or more
+abbrev pub regionLines : List ℕ → ℕ → ℕ → List (List ℕ)
+regionLines m address count = regionLine m address (address + (count - 1)) ∷ []
