@@ -1,2 +1,3 @@
--- The table of worked cases holds.
+-- The table of worked cases holds; and laws of words.
 pub mod Table
+pub mod TypeLaws

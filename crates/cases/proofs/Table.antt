@@ -1,5 +1,5 @@
 -- Every worked case holds: the checker runs the step's definition on the whole table.
-use mathlib.Core.Path.{_≡_, refl}
+use mathlib.Core.Path.{refl}
 use Rattle.word.specs.Word.{wrapAdd, wrapSub}
 use Rattle.word.specs.Flags.{withSign, setSZ, addOf, subtractOf, compareOf, statusWord}
 use Rattle.word.specs.Shifts.{withLowSign, swapTwice, rlcTwice, sarOnce, shiftOnce, shiftTwice, shiftOf}

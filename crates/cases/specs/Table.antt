@@ -4,14 +4,13 @@ use mathlib.Core.Path.{_≡_}
 use mathlib.Core.Bool.{Bool, true, false, _&&_, Bool·beq}
 use mathlib.Core.List.{List, [], _∷_, _++_}
 use lib.Dec.{eqb}
-use Rattle.cpu.specs.declared.Status.{Status}
 use Rattle.cpu.specs.declared.State.{State}
 use Rattle.cpu.specs.declared.Lines.{Lines}
 use Rattle.cpu.specs.Answer.{Reported, refused, answered}
 use Rattle.meter.specs.Answer.{Answer, wait as waitsFor, over, halts, unspecified, Reported as Metered, refused as notMetered, answered as metered}
 use Rattle.meter.specs.Grants.{pcOf}
 use Rattle.meter.specs.Meter.{waitOf}
-use Rattle.cpu.specs.Step.{Outcome, stepOf}
+use Rattle.cpu.specs.Step.{stepOf}
 
 -- the flags S, Z, O and C
 pub record Flags : Type 0 where

@@ -1,47 +1,89 @@
-// Runs hand-made cases of the processor step. Prints a line for each case, its name with `ok` or with what differs, and last the counts.
-// The cases stand in the file `stdin`, whose head says how a case is written.
+// Runs hand-made cases of the processor's step and of the run. Prints a line for each case, its name with `ok` or with what differs, and
+// last the counts. The cases stand in the file `stdin`, whose head says how a case is written.
+mod answer;
+mod form;
 mod rows;
-mod text;
+mod types;
 mod verdict;
 
+use crate::answer::Answer;
+use cpu::State;
+use harness::tally;
+use harness::tally::Tally;
+use harness::text;
 use libc::STDIN_FILENO;
-use libc::STDOUT_FILENO;
 
 const INPUT_ROOM: usize = 262144;
 
 // One word more than a step takes, for the cases that lend too much.
 const MEMORY_ROOM: usize = 65537;
 
-// A malformed case counts as one that failed.
-struct Tally {
-    cases: u64,
-    failed: u64,
+// What a call left beside the memory.
+struct Left {
+    state: State,
+    answer: Answer,
 }
 
-fn counted(tally: Tally, well: bool) -> Tally {
-    let more = if well { 0 } else { 1 };
-    Tally {
-        cases: std::num::wrapping_add_u64(tally.cases, 1),
-        failed: std::num::wrapping_add_u64(tally.failed, more),
+fn step_from(before: &[u8], memory: &mut [u16]) -> Left {
+    let stepped = cpu::step(rows::state_of(before), memory, rows::lines_of(before));
+    let state = stepped.state;
+    let given = stepped.answer;
+    Left {
+        state: state,
+        answer: answer::of_step(given),
     }
 }
 
-fn step_from(before: &[u8], memory: &mut [u16]) -> cpu::Stepped {
-    rows::lay_before(memory, before);
-    cpu::step(rows::state_of(before), memory, rows::lines_of(before))
+fn run_from(before: &[u8], memory: &mut [u16], budget: u32) -> Left {
+    let ran = run::run(
+        rows::state_of(before),
+        memory,
+        rows::lines_of(before),
+        budget,
+    );
+    let state = ran.state;
+    let given = ran.answer;
+    Left {
+        state: state,
+        answer: answer::of_run(given),
+    }
 }
 
-// Makes the step, and compares all that it left with the case: registers, flags, marks, the answer, and every word of the memory. `expected` is
-// the memory's twin, which gets the stores that the case names.
-fn step_agrees(before: &[u8], after: &[u8], memory: &mut [u16], expected: &mut [u16]) -> bool {
-    let stepped = step_from(before, memory);
-    rows::lay_after(expected, before, after);
-    verdict::agree(stepped, rows::state_of(after), rows::answer_of(after))
+// Makes the step or the run of a case.
+fn left_by(name: &[u8], before: &[u8], memory: &mut [u16]) -> Left {
+    if rows::is_run(name) {
+        run_from(before, memory, rows::budget_of(name))
+    } else {
+        step_from(before, memory)
+    }
+}
+
+// Compares what a call left with what the case says: registers, flags, marks, the answer, and every word of the memory.
+fn agrees(left: Left, after: &[u8], memory: &[u16], expected: &[u16]) -> bool {
+    let state = left.state;
+    let given = left.answer;
+    verdict::agree_state(state, rows::state_of(after))
+        & verdict::agree_answer(given, rows::answer_of(after))
         & verdict::agree_memory(memory, expected)
+        & types::are_sound(state, memory)
 }
 
-// Prints the line of the case that has these rows, and answers whether all went well.
-fn run_case(
+// Makes the call, and compares. `expected` is the memory's twin, which gets the stores that the case names.
+fn call_agrees(
+    name: &[u8],
+    before: &[u8],
+    after: &[u8],
+    memory: &mut [u16],
+    expected: &mut [u16],
+) -> bool {
+    rows::lay_before(memory, before);
+    rows::lay_after(expected, before, after);
+    let left = left_by(name, before, memory);
+    agrees(left, after, memory, expected)
+}
+
+// Prints what the line of the case with these rows begins with, and answers whether all went well.
+fn is_well(
     name: &[u8],
     before: &[u8],
     after: &[u8],
@@ -61,38 +103,34 @@ fn run_case(
     if expected.len() < length {
         return verdict::malformed();
     }
-    let well = step_agrees(
+    call_agrees(
+        name,
         before,
         after,
         &mut memory[0..length],
         &mut expected[0..length],
-    );
-    verdict::close(well);
-    well
+    )
 }
 
 // A row that is no remark is the first of a case's three rows, so that no row is passed over.
 fn run_cases(input: &[u8], memory: &mut [u16], expected: &mut [u16]) -> Tally {
-    let mut tally = Tally {
-        cases: 0,
-        failed: 0,
-    };
+    let mut tally = tally::empty();
     let mut rest = input;
     while rest.len() > 0 {
         let row = text::first_row(rest);
         let second = text::after_first_row(rest);
-        if rows::is_remark(row) {
+        if text::is_remark(row) {
             rest = second;
         } else {
             let third = text::after_first_row(second);
-            let well = run_case(
+            let well = is_well(
                 row,
                 text::first_row(second),
                 text::first_row(third),
                 memory,
                 expected,
             );
-            tally = counted(tally, well);
+            tally = tally::close(tally, well);
             rest = text::after_first_row(third);
         }
     }
@@ -108,8 +146,5 @@ fn main() {
     if length == INPUT_ROOM {
         verdict::say(b"the input fills its room, and may be cut\n");
     }
-    io::print_decimal(STDOUT_FILENO, tally.cases);
-    verdict::say(b" cases, ");
-    io::print_decimal(STDOUT_FILENO, tally.failed);
-    verdict::say(b" failed\n");
+    tally::summary(tally);
 }

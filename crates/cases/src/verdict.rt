@@ -1,10 +1,9 @@
-// Comparing what a step left with what its case says. Each comparison prints what differs and answers whether nothing does, so that all
+// Comparing what a call left with what its case says. Each comparison prints what differs and answers whether nothing does, so that all
 // differences of a case are seen.
-use crate::rows::Answer;
+use crate::answer;
+use crate::answer::Answer;
 use cpu::State;
 use cpu::Status;
-use cpu::StepAnswer;
-use cpu::Stepped;
 use libc::STDOUT_FILENO;
 
 pub(crate) fn say(words: &[u8]) {
@@ -15,31 +14,18 @@ fn say_word(word: u16) {
     io::print_hex(STDOUT_FILENO, word as u64, 4);
 }
 
-// Prints the end of a case's line.
-pub(crate) fn close(well: bool) {
-    if well {
-        say(b"ok\n");
-    } else {
-        say(b"FAILED\n");
-    }
-}
-
-// Prints the end of the line of a case whose rows are not in their form.
+// A case whose rows are not in their form.
 pub(crate) fn malformed() -> bool {
-    say(b"MALFORMED\n");
+    say(b"malformed, ");
     false
 }
 
-pub(crate) fn agree(stepped: Stepped, state: State, answer: Answer) -> bool {
-    let left = stepped.state;
+pub(crate) fn agree_state(left: State, expected: State) -> bool {
     let registers = left.registers;
     let status = left.status;
-    let given = stepped.answer;
-    let expected_registers = state.registers;
-    let expected_status = state.status;
-    agree_registers(registers, expected_registers)
-        & agree_status(status, expected_status)
-        & agree_answer(written(given), answer)
+    let expected_registers = expected.registers;
+    let expected_status = expected.status;
+    agree_registers(registers, expected_registers) & agree_status(status, expected_status)
 }
 
 fn agree_word(name: &[u8], left: u16, expected: u16) -> bool {
@@ -88,35 +74,20 @@ fn agree_status(left: Status, expected: Status) -> bool {
         & agree_mark(b"INTRM's mark", left.pending, expected.pending)
 }
 
-// The step's answer as a case writes it.
-fn written(answer: StepAnswer) -> Answer {
-    match answer {
-        StepAnswer::Refused(why) => Answer {
-            kind: b'R',
-            number: refusal::number(why),
-        },
-        StepAnswer::Granted(cycles) => Answer {
-            kind: b'G',
-            number: cycles,
-        },
-        StepAnswer::Interrupted(cycles) => Answer {
-            kind: b'I',
-            number: cycles,
-        },
-        StepAnswer::Executed(cycles) => Answer {
-            kind: b'E',
-            number: cycles,
-        },
-    }
-}
-
-fn agree_answer(left: Answer, expected: Answer) -> bool {
-    if (left.kind == expected.kind) & (left.number == expected.number) {
+pub(crate) fn agree_answer(left: Answer, expected: Answer) -> bool {
+    if (left.kind == expected.kind)
+        & (left.first == expected.first)
+        & (left.second == expected.second)
+    {
         return true;
     }
     say(b"the answer is ");
     say_kind(left.kind);
-    io::print_decimal(STDOUT_FILENO, left.number as u64);
+    io::print_decimal(STDOUT_FILENO, left.first);
+    if answer::is_end(left.kind) {
+        say(b" ");
+        io::print_decimal(STDOUT_FILENO, left.second);
+    }
     say(b", ");
     false
 }
@@ -126,7 +97,10 @@ fn say_kind(kind: u8) {
         b'R' => say(b"REFUSED "),
         b'G' => say(b"GRANTED "),
         b'I' => say(b"INTERRUPTED "),
-        _ => say(b"EXECUTED "),
+        b'E' => say(b"EXECUTED "),
+        b'H' => say(b"HALTED "),
+        b'U' => say(b"UNSPECIFIED "),
+        _ => say(b"BUDGET "),
     }
 }
 

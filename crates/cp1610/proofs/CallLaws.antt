@@ -23,7 +23,7 @@ use Rattle.cpu.proofs.Laws.{refused-keeps-all, every-cost}
 use Rattle.cp1610.specs.Words.{stateLength, eight, isSet, flagWord, unpacked, packed, linesOf}
 use Rattle.cp1610.specs.Answers.{isRefusal, successWord, answerWord}
 use Rattle.cp1610.specs.Call.{Called, isShort, handedBack, stepCall}
-use Rattle.cp1610.specs.Laws.{UnpacksPacked, KeepsRest, readResult, readCall, CallIsStep, callsFrom, CallsAreSteps}
+use Rattle.cp1610.specs.Laws.{UnpacksPacked, KeepsRest, readCall, CallIsStep, callsFrom, CallsAreSteps}
 
 eight-same : (r : List ℕ) → length r ≡ 8 → eight r ≡ r
 eight-same [] e = absurd (omega arith)

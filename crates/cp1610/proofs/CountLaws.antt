@@ -3,7 +3,7 @@
 use Prim.Native.Nat.{ℕ, zero, suc, _+_, _*_, _≤_}
 use mathlib.Core.Path.{_≡_, refl, ap, sym, _∙_}
 use mathlib.Core.Bool.{Bool, true, false, cond}
-use mathlib.Core.List.{List, [], _∷_}
+use mathlib.Core.List.{List}
 use native.Mathlib.Omega.{arith}
 use borrow.Author.Tests.{ltb-false}
 use lib.Dec.{eqb, ltb}
@@ -24,7 +24,6 @@ use Rattle.image.specs.Write.{Writing, refuseRoom, regionImage, writing, writeO
 use Rattle.listing.specs.declared.Listing.{Listing}
 use Rattle.listing.specs.declared.Listing.the-variants.{Listed}
 use Rattle.listing.specs.Answer.{ListingReport, refused as unlisted, listed}
-use Rattle.listing.specs.Line.{textOf}
 use Rattle.listing.specs.Disassemble.{Disassembly, entryAt, written as lineWritten, disassembleOf, disassembly}
 use Rattle.listing.proofs.Entries.{entry-in}
 use Rattle.listing.proofs.Lines.{text-length}

@@ -23,7 +23,7 @@ use Rattle.cp1610.specs.Call.{StateCalled, isShort, resetCall}
 use Rattle.cp1610.specs.MeterCall.{regionLength, OutCalled, regionHandedBack, regionCall}
 use Rattle.cp1610.specs.ListingCall.{lineWords, AssembleCalled, assemblyHandedBack, assembleCall, listLength, ListCalled, listHandedBack, listCall}
 use Rattle.cp1610.specs.ImageCall.{loadHandedBack, loadCall, writeHandedBack, writeCall}
-use Rattle.cp1610.specs.Calls.{Call, reset, step, run, wait, region, list, assemble, load, write, RefusedAltersNothing}
+use Rattle.cp1610.specs.Calls.{reset, step, run, wait, region, list, assemble, load, write, RefusedAltersNothing}
 use Rattle.cp1610.proofs.CallLaws.{no-refusal, refused-step}
 use Rattle.cp1610.proofs.RunCallLaws.{refused-run}
 

@@ -1,6 +1,6 @@
 -- The laws of `specs/Laws` on runs.
-use Prim.Native.Nat.{ℕ, zero, suc, _+_, _≤_}
-use mathlib.Core.Path.{_≡_, refl, ap, _∙_}
+use Prim.Native.Nat.{ℕ, zero, suc}
+use mathlib.Core.Path.{_≡_, refl}
 use mathlib.Core.Bool.{true, _||_}
 use mathlib.Core.List.{List, [], _∷_}
 use borrow.Author.Tests.{le-ltb}
@@ -8,7 +8,6 @@ use lib.Dec.{ltb, lit≤}
 use lib.ListN.{length}
 use Rattle.refusal.specs.declared.Refusal.{Refusal}
 use Rattle.refusal.specs.declared.Refusal.the-variants.{MemoryTooLong, BudgetTooHigh, Halted as HaltedMachine}
-use Rattle.refusal.specs.Refusals.{refusalNumber}
 use Rattle.word.proofs.Choice.{cond-both}
 use Rattle.memory.specs.Memory.{tooLong}
 use Rattle.cpu.specs.declared.State.{State}

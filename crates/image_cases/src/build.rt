@@ -1,5 +1,5 @@
 // Memories and files for the cases, made without the kit's own loader and writer, and compared.
-use crate::text;
+use harness::text;
 
 // Each word and each byte that a case does not name.
 const BACKGROUND: u16 = 0x5A5A;
@@ -57,18 +57,6 @@ pub(crate) fn put_bytes(room: &mut [u8], row: &[u8]) -> usize {
         rest = next;
     }
     i
-}
-
-pub(crate) fn same_words(a: &[u16], b: &[u16]) -> bool {
-    if a.len() != b.len() {
-        return false;
-    }
-    for i in 0..a.len() {
-        if a[i] != b[i] {
-            return false;
-        }
-    }
-    true
 }
 
 pub(crate) fn same_bytes(a: &[u8], b: &[u8]) -> bool {

@@ -1,10 +1,12 @@
 // Runs hand-made cases of the image loader and writer. Prints a line for each case, its name with `ok` or `FAILED`, and last the counts.
 // The cases stand in the file `stdin`, whose head says how a case is written.
 mod build;
-mod check;
+mod call;
 mod row;
-mod text;
 
+use harness::tally;
+use harness::tally::Tally;
+use harness::text;
 use libc::STDIN_FILENO;
 use libc::STDOUT_FILENO;
 
@@ -16,37 +18,13 @@ const MEMORY_ROOM: usize = 65537;
 // The longest file that is written has 131,464 bytes.
 const FILE_ROOM: usize = 131500;
 
-struct Tally {
-    cases: u64,
-    failed: u64,
-}
-
-fn say(words: &[u8]) {
-    io::write_all(STDOUT_FILENO, words);
-}
-
-// Prints the case's line, and counts it.
-fn counted(tally: Tally, name: &[u8], well: bool) -> Tally {
-    say(name);
-    if well {
-        say(b": ok\n");
-    } else {
-        say(b": FAILED\n");
-    }
-    let more = if well { 0 } else { 1 };
-    Tally {
-        cases: std::num::wrapping_add_u64(tally.cases, 1),
-        failed: std::num::wrapping_add_u64(tally.failed, more),
-    }
-}
-
 // Lends the case fresh memories and rooms: `twin` and `mirror` get what memory and room are to hold at its end.
 fn runs_well(first: &[u8], second: &[u8], third: &[u8]) -> bool {
     let mut memory = [0u16; MEMORY_ROOM];
     let mut twin = [0u16; MEMORY_ROOM];
     let mut room = [0u8; FILE_ROOM];
     let mut mirror = [0u8; FILE_ROOM];
-    check::is_well(
+    call::is_well(
         row::case_of(first),
         second,
         third,
@@ -59,10 +37,7 @@ fn runs_well(first: &[u8], second: &[u8], third: &[u8]) -> bool {
 
 // A row that is no remark is the first of a case's three rows, so that no row is passed over.
 fn run_cases(input: &[u8]) -> Tally {
-    let mut tally = Tally {
-        cases: 0,
-        failed: 0,
-    };
+    let mut tally = tally::empty();
     let mut rest = input;
     while rest.len() > 0 {
         let first = text::first_row(rest);
@@ -72,7 +47,7 @@ fn run_cases(input: &[u8]) -> Tally {
         } else {
             let third = text::after_first_row(second);
             let well = runs_well(first, text::first_row(second), text::first_row(third));
-            tally = counted(tally, row::name_of(first), well);
+            tally = tally::judge(tally, row::name_of(first), well);
             rest = text::after_first_row(third);
         }
     }
@@ -84,10 +59,7 @@ fn main() {
     let length = io::read_full(STDIN_FILENO, &mut input);
     let tally = run_cases(&input[..length]);
     if length == INPUT_ROOM {
-        say(b"the input fills its room, and may be cut\n");
+        io::write_all(STDOUT_FILENO, b"the input fills its room, and may be cut\n");
     }
-    io::print_decimal(STDOUT_FILENO, tally.cases);
-    say(b" cases, ");
-    io::print_decimal(STDOUT_FILENO, tally.failed);
-    say(b" failed\n");
+    tally::summary(tally);
 }

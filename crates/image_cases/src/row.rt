@@ -5,7 +5,7 @@
 //     load  0002 000016 .... .... ...... refused 000011 memory that is a word short
 //     write 0002 000032 0010 0010 000016 answers 000016 the example is written
 //     trip  0002 065536 0000 FFFF 131464 answers 000064 all memory there and back
-use crate::text;
+use harness::text;
 
 // The board, the memory's words, the region, the room's bytes, and what is to be answered: a number of records, a length, or a refusal's
 // number.
@@ -28,13 +28,13 @@ pub(crate) fn case_of(row: &[u8]) -> Case {
     Case {
         kind: text::byte_at(row, 0),
         board: text::hex_word(row, 6),
-        words: text::decimal(row, 11),
+        words: text::decimal(row, 11, 6) as usize,
         first: text::hex_word(row, 18),
         last: text::hex_word(row, 23),
-        bytes: text::decimal(row, 28),
+        bytes: text::decimal(row, 28, 6) as usize,
         answer: Answer {
             refused: text::byte_at(row, 35) == b'r',
-            number: text::decimal(row, 43),
+            number: text::decimal(row, 43, 6) as usize,
         },
     }
 }

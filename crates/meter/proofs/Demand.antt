@@ -14,7 +14,7 @@ use Rattle.cpu.specs.declared.State.{State}
 use Rattle.cpu.specs.declared.Lines.{Lines}
 use Rattle.cpu.specs.Step.{stepOf}
 use Rattle.cpu.specs.Steps.{stepsFrom}
-use Rattle.meter.specs.Answer.{Answer, wait, over, refused, answered}
+use Rattle.meter.specs.Answer.{Answer, wait, refused, answered}
 use Rattle.meter.specs.Walk.{limitOf, startAt, walkOn, walkFrom}
 use Rattle.meter.specs.Meter.{answerFrom, waitOf, namedOf, regionOf}
 use Rattle.meter.specs.Grants.{pcOf, Unrefused}

@@ -1,6 +1,4 @@
 // Cases of the meter for an address.
-use crate::report;
-use crate::report::Tally;
 use crate::seen;
 use crate::seen::Seen;
 use crate::seen::halts;
@@ -8,10 +6,12 @@ use crate::seen::over;
 use crate::seen::refused;
 use crate::seen::unspecified;
 use crate::seen::waits;
+use harness::tally;
+use harness::tally::Tally;
 
 fn case(tally: Tally, name: &[u8], mem: &[u16], address: u16, limit: u16, expected: Seen) -> Tally {
     let found = seen::of_wait(meter::wait(mem, address, limit));
-    report::judged(tally, name, seen::same(found, expected))
+    tally::judge(tally, name, seen::same(found, expected))
 }
 
 // Three MVO@ R0,R1 (9 each, 27), six CLRC (4 each, 24), and a heard row: 51 and NOP's 6, or NOPP's 7, or BEQ's 9 as taken.

@@ -2,18 +2,11 @@
 // case expects was worked out by hand from document 01's rows: the sums stand beside the cases.
 mod addresses;
 mod regions;
-mod report;
 mod seen;
 
-use libc::STDOUT_FILENO;
-use report::Tally;
+use harness::tally;
 
 fn main() {
-    let mut tally = Tally {
-        cases: 0,
-        failed: 0,
-    };
-    tally = addresses::run(tally);
-    tally = regions::run(tally);
-    report::summary(tally);
+    let addresses = addresses::run(tally::empty());
+    tally::summary(regions::run(addresses));
 }

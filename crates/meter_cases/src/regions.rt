@@ -1,12 +1,12 @@
 // Cases of the meter for a region.
-use crate::report;
-use crate::report::Tally;
 use crate::seen;
 use crate::seen::Named;
 use crate::seen::nothing;
 use crate::seen::rejected;
 use crate::seen::with_over;
 use crate::seen::with_wait;
+use harness::tally;
+use harness::tally::Tally;
 
 fn case(
     tally: Tally,
@@ -18,7 +18,7 @@ fn case(
     expected: Named,
 ) -> Tally {
     let found = seen::of_region(meter::region(mem, first, last, limit));
-    report::judged(tally, name, seen::same_named(found, expected))
+    tally::judge(tally, name, seen::same_named(found, expected))
 }
 
 // The longest wait with its lowest start, and none over the limit.

@@ -4,8 +4,7 @@ use mathlib.Core.Path.{_≡_, refl, ap, ap₂, sym, subst, _∙_}
 use mathlib.Core.Bool.{Bool, true, false, not, cond, _&&_, true≢false, false≢true}
 use mathlib.Core.List.{List, [], _∷_}
 use native.Mathlib.Omega.{arith}
-use native.Mathlib.Numerals.{add-one}
-use lib.Dec.{ltb, lit<}
+use lib.Dec.{ltb}
 use lib.ListN.{length}
 use borrow.Author.Tests.{ltb-true, ltb-false}
 use Rattle.refusal.specs.declared.Refusal.{Refusal}
@@ -18,13 +17,12 @@ use Rattle.cpu.specs.declared.State.{State}
 use Rattle.cpu.specs.declared.Lines.{Lines}
 use Rattle.cpu.specs.Answer.{cyclesOf, isUnspecified}
 use Rattle.cpu.specs.Step.{stepOf}
-use Rattle.cpu.specs.Steps.{Moment, stepsFrom, lastState, lastMemory, cyclesOfAll}
+use Rattle.cpu.specs.Steps.{stepsFrom, lastState, lastMemory, cyclesOfAll}
 use Rattle.cpu.proofs.Laws.{cycles-most, step-charges}
 use Rattle.run.specs.declared.Cause.{Cause}
 use Rattle.run.specs.declared.Cause.the-variants.{Halted, Unspecified, Budget}
-use Rattle.run.specs.declared.RunAnswer.{RunAnswer}
 use Rattle.run.specs.declared.RunAnswer.the-variants.{Refused, Ended}
-use Rattle.run.specs.Run.{RunReported, refused, ended, runReported, RunAnswersApart, RunOutcome, refuse, causeOf, finish, goesOn, runFrom, runOn, runOf}
+use Rattle.run.specs.Run.{RunReported, refused, ended, RunAnswersApart, RunOutcome, refuse, causeOf, finish, goesOn, runFrom, runOn, runOf}
 use Rattle.run.specs.Laws.{repeated, Made, MakesItsSteps, CyclesBelow, CauseSays, CauseIsRight, BudgetIsSpent, NoBudgetNoChange}
 use Rattle.run.proofs.RunLaws.{goes-on, kept, ends-halted, ends-unspecified, ends-budget}
 

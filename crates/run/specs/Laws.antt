@@ -2,7 +2,7 @@
 use Prim.Native.Nat.{ℕ, zero, suc, _+_, _<_, _≤_}
 use mathlib.Core.Path.{_≡_}
 use mathlib.Core.Logic.{_↔_}
-use mathlib.Core.Bool.{Bool, true, false, cond}
+use mathlib.Core.Bool.{true, false, cond}
 use mathlib.Core.List.{List, [], _∷_}
 use lib.ListN.{length}
 use Rattle.memory.specs.Memory.{tooLong}
@@ -10,7 +10,7 @@ use Rattle.cpu.specs.declared.State.{State}
 use Rattle.cpu.specs.declared.Lines.{Lines}
 use Rattle.cpu.specs.Answer.{cyclesOf, isUnspecified}
 use Rattle.cpu.specs.Step.{stepOf}
-use Rattle.cpu.specs.Steps.{Moment, stepsFrom, lastState, lastMemory, cyclesOfAll}
+use Rattle.cpu.specs.Steps.{stepsFrom, lastState, lastMemory, cyclesOfAll}
 use Rattle.run.specs.declared.Cause.{Cause}
 use Rattle.run.specs.declared.Cause.the-variants.{Halted, Unspecified, Budget}
 use Rattle.run.specs.Run.{RunOutcome, ended, finish, goesOn, runOn, runOf}

@@ -6,8 +6,7 @@ use crate::vector::Vector;
 use cpu::Lines;
 use cpu::State;
 use cpu::StepAnswer;
-ghost use mathlib.Core.Path.{_≡_};
-ghost use mathlib.Core.Bool.{true};
+use harness::words;
 
 // What of the outcome is not as the vector has it.
 pub(crate) struct Differences {
@@ -23,21 +22,6 @@ pub(crate) enum Verdict {
     Malformed,
 }
 
-// Whether both runs have the same words.
-fn same(a: &[u16], b: &[u16]) -> bool
-    ensures { λ r. ⌜ (r ≡ true → now (a .entry) ≡ now (b .entry)) × (now (a .entry) ≡ now (b .entry) → r ≡ true) ⌝ }
-{
-    if a.len() != b.len() {
-        return false;
-    }
-    for i in 0..a.len() {
-        if a[i] != b[i] {
-            return false;
-        }
-    }
-    true
-}
-
 fn same_flags(state: State, machine: Machine) -> bool {
     let status = state.status;
     (status.s == machine.s)
@@ -49,7 +33,7 @@ fn same_flags(state: State, machine: Machine) -> bool {
 fn same_registers(state: State, machine: Machine) -> bool {
     let found = state.registers;
     let wanted = machine.registers;
-    same(&found, &wanted)
+    words::same(&found, &wanted)
 }
 
 // Whether the step made an instruction, and in so many cycles.
@@ -89,7 +73,7 @@ fn run_vector(vector: Vector, memory: &mut Memory, expected: &Memory) -> Verdict
         registers: !same_registers(state, after),
         flags: !same_flags(state, after),
         cycles: !executed_in(answer, vector.cycles),
-        memory: !same(memory, expected),
+        memory: !words::same(memory, expected),
     })
 }
 

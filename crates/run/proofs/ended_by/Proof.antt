@@ -1,7 +1,6 @@
 -- `ended_by`: halted, then unspecified, then budget.
 use mathlib.Core.Path.{sym, _∙_}
 use borrow.Author.Needs.{needs}
-use Rattle.run.specs.Run.{causeOf}
 use Rattle.run.proofs.RunLaws.{ends-halted, ends-unspecified, ends-budget}
 use Rattle.run.proofs.ended_by.Statement.{statement}
 use Rattle.run.proofs.ended_by.Tie as tie

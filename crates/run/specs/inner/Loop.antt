@@ -1,11 +1,11 @@
 -- The code's loop: it goes by what each step answers. `proofs/LoopLaws` equates it with the run and with one step.
 use Prim.Native.Nat.{ℕ, zero, suc, _+_, _-_}
-use mathlib.Core.Bool.{Bool, cond}
+use mathlib.Core.Bool.{cond}
 use mathlib.Core.List.{List}
 use lib.Dec.{eqb, ltb}
 use Rattle.cpu.specs.declared.State.{State}
 use Rattle.cpu.specs.declared.Lines.{Lines}
-use Rattle.cpu.specs.Answer.{Reported, answered, reported, cyclesOf}
+use Rattle.cpu.specs.Answer.{answered, reported, cyclesOf}
 use Rattle.cpu.specs.Step.{Outcome, stepOf}
 use Rattle.cpu.specs.declared.Stepped.{Stepped}
 use Rattle.run.specs.declared.Stop.{Stop}

@@ -1,7 +1,7 @@
 use Rattle.listing.specs.Inner.{paddedOf}
 -- `write`: the loop's invariant is that the first i bytes of the room are the line's, and the others as they were.
 use borrow.Author.Needs.{needs}
-use Prim.Native.Nat.{_+_, _-_, _≤_}
+use Prim.Native.Nat.{_-_, _≤_}
 use mathlib.Core.Path.{_≡_, refl, sym, ap, _∙_}
 use mathlib.Core.List.{_++_}
 use native.Mathlib.Omega.{arith}
