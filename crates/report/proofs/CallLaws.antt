@@ -1,12 +1,12 @@
 -- What the disassembler and the meter answer here: neither refuses, as the memory is short enough, the room large enough, and the region in
 -- its order.
 use Prim.Native.Nat.{ℕ, _-_, _≤_, _<_}
-use mathlib.Core.Path.{_≡_, refl, sym, ap, _∙_}
+use mathlib.Core.Path.{_≡_, sym, ap, _∙_}
 use mathlib.Core.Bool.{Bool}
 use mathlib.Core.List.{List, _++_}
 use native.Mathlib.Omega.{arith}
 use borrow.Author.Tests.{le-ltb}
-use lib.Dec.{lit<, lit≤}
+use lib.Dec.{lit<}
 use lib.ListN.{length, take, drop}
 use lib.Seq.{take-append-seam}
 use Rattle.word.proofs.Choice.{cond-false}
@@ -31,15 +31,15 @@ use Rattle.memory.specs.Memory.{peekOf}
 use Rattle.listing.specs.declared.Listing.{Listing}
 use Rattle.listing.specs.declared.Listing.the-variants.{Refused as Unlisted, Listed}
 use Rattle.listing.specs.Answer.{refused, listed}
-use Rattle.listing.specs.Line.{textOf}
 use Rattle.listing.specs.Disassemble.{Disassembly, entryAt, textAt, written, disassembleOf, disassembly}
 use Rattle.meter.specs.declared.LongestWait.{LongestWait}
 use Rattle.meter.specs.declared.LowestOver.{LowestOver}
 use Rattle.meter.specs.declared.RegionAnswer.{RegionAnswer}
 use Rattle.meter.specs.declared.RegionAnswer.the-variants.{Refused as Unmetered, Found}
-use Rattle.meter.specs.Answer.{Reported, refused as rejected, answered, Named, longestOf, lowestOf, regionReport}
+use Rattle.meter.specs.Answer.{refused as rejected, answered, longestOf, lowestOf, regionReport}
 use Rattle.meter.specs.Meter.{answerFrom, namedOf, regionOf}
 use Rattle.report.specs.Regions.{meteringLimit, namedBy}
+use Rattle.report.proofs.LineLaws.{text-short}
 
 -- a refusal's number has two digits at most
 pub number-short : (r : Refusal) → refusalNumber r < 100
@@ -59,10 +59,11 @@ number-short ImageRoomTooSmall = lit< tt
 
 -- a line that was listed; the code takes it from the front of the room
 pub record ListedLine (read : ℕ → ℕ) (at : ℕ) (double : Bool) (room : List ℕ) (size words : ℕ) (next : Bool) : Type 0 where
-  pub size-is : size ≡ length (textAt read at double)
   pub words-are : words ≡ entryAt read at double .words
   pub next-is : next ≡ entryAt read at double .double
   pub text-is : take (size - 0) (drop 0 room) ≡ textAt read at double
+  pub short : size ≤ 14
+  pub text-short : length (take (size - 0) (drop 0 room)) ≤ 14
 
 module _ (m : List ℕ) (at : ℕ) (double : Bool) (room : List ℕ) {after : List ℕ} (x : Listing) (e : disassembly x after ≡ disassembleOf m at double room)
     (h : length m ≤ 65536) (k : 16 ≤ length room) where
@@ -80,7 +81,9 @@ module _ (m : List ℕ) (at : ℕ) (double : Bool) (room : List ℕ) {after : Li
       let line : after ≡ text ++ drop (length text) room = ap (λ (d : Disassembly). d .room) listing-is in
       let s : size ≡ length text = cc in
       let z : length text - 0 ≡ length text = omega arith in
-      record { size-is = s; words-are = cc; next-is = cc; text-is = rw (s, line, z) (take-append-seam text (drop (length text) room)) }
+      let t : take (size - 0) (drop 0 after) ≡ text = rw (s, line, z) (take-append-seam text (drop (length text) room)) in
+      let k : length text ≤ 14 = text-short (peekOf m) at double in
+      record { words-are = cc; next-is = cc; text-is = t; short = rw s k; text-short = rw t k }
 
   pub listed-surely : {A : Type 0} {r : Refusal} → x ≡ Unlisted r → A
   unfolding written

@@ -1,7 +1,7 @@
 -- How long the lines are, how many there are, and that each instruction has a word or more.
 use Prim.Native.Nat.{ℕ, zero, suc, _+_, _-_, _*_, _≤_, _<_}
-use mathlib.Core.Path.{_≡_, refl, sym, ap, _∙_}
-use mathlib.Core.Bool.{Bool, true, false, cond, _&&_, _||_}
+use mathlib.Core.Path.{_≡_, refl, ap}
+use mathlib.Core.Bool.{Bool, false, _&&_, _||_}
 use mathlib.Core.List.{List, [], _∷_, _++_, append-assoc}
 use native.Mathlib.Omega.{arith}
 use borrow.Author.Tests.{lt-ltb, le-ltb}
@@ -26,9 +26,9 @@ use Rattle.meter.specs.Answer.{Longest, noWait, longest, Lowest, noOver, overAt
 use Rattle.meter.specs.Meter.{answerFrom, namedOf}
 use Rattle.report.specs.declared.Report.{Report}
 use Rattle.report.specs.declared.Report.the-variants.{Listing, Metering}
-use Rattle.report.specs.Text.{space, hexOf, decimalOf, lineText, linesText}
+use Rattle.report.specs.Text.{space, hexOf, lineText, linesText}
 use Rattle.report.specs.Instructions.{instructionLine, linesFrom, instructionLines}
-use Rattle.report.specs.Regions.{meteringLimit, waitText, overText, namedLine, regionLine, regionLines}
+use Rattle.report.specs.Regions.{meteringLimit, waitText, overText, namedLine, regionLine}
 use Rattle.report.specs.Report.{recordLines, recordsLines, endNumber}
 
 -- every row has a word
@@ -58,20 +58,9 @@ words-some read at double = go (decodeAt read at false)
     go Unspecified = lit≤ tt
     go (Known i) = row-some i double
 
-pub hex-length : (w : ℕ) → length (hexOf w) ≡ 4
+hex-length : (w : ℕ) → length (hexOf w) ≡ 4
 unfolding hexOf
 hex-length w = refl
-
-pub field-length : (w : ℕ) → length (hexOf w ++ (space ∷ [])) ≡ 5
-unfolding hexOf
-field-length w = refl
-
-pub numbered-length : (name : List ℕ) (n : ℕ) → length (lineText (name ++ hexOf n)) ≡ length name + 5
-numbered-length name n = simp (length-append, hex-length) (omega arith)
-
-pub decimal-short : (n : ℕ) → length (decimalOf n) ≤ 2
-unfolding decimalOf
-decimal-short n = cond-both (λ (l : List ℕ). length l ≤ 2) (ltb n 10) (lit≤ tt) (lit≤ tt)
 
 -- the pieces of a line, as they are put
 pub instruction-pieces : (read : ℕ → ℕ) (at : ℕ) (double : Bool)
@@ -122,11 +111,11 @@ lines-few (suc n) read end at double =
     (omega (arith, lines-few n read end (at + e .words) (e .double)))
     (omega arith)
 
-pub wait-short : (l : Longest) → length (waitText l) ≤ 17
+wait-short : (l : Longest) → length (waitText l) ≤ 17
 wait-short noWait = lit≤ tt
 wait-short (longest cycles start) = simp (length-append, hex-length) (lit≤ tt)
 
-pub over-short : (o : Lowest) → length (overText o) ≤ 9
+over-short : (o : Lowest) → length (overText o) ≤ 9
 over-short noOver = lit≤ tt
 over-short (overAt start) = simp hex-length (lit≤ tt)
 

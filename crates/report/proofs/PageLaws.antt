@@ -4,7 +4,7 @@ use mathlib.Core.Path.{_≡_, refl, sym, ap, _∙_}
 use mathlib.Core.List.{List, [], _∷_, _++_, append-assoc, append-nil}
 use native.Mathlib.Omega.{arith}
 use lib.ListN.{length, length-append}
-use lib.Seq.{sets, length-sets, sets-eq, length-take-le}
+use lib.Seq.{length-sets, sets-eq, length-take-le}
 use Rattle.image.proofs.ByteLaws.{sets-split}
 use Rattle.report.specs.declared.page.Page.{Page}
 use Rattle.report.specs.Text.{lineText, linesText}

@@ -1,13 +1,12 @@
 -- The two loops: over the instructions of a record, and over the records of a file. Each invariant is a record, with what a turn does to it.
 use Prim.Native.Nat.{ℕ, _+_, _-_, _*_, _<_, _≤_}
 use mathlib.Core.Path.{_≡_, refl, sym, ap, _∙_}
-use mathlib.Core.Bool.{Bool, true, false}
+use mathlib.Core.Bool.{Bool, false}
 use mathlib.Core.List.{List, [], _∷_, _++_, append-assoc, append-nil}
 use native.Mathlib.Omega.{arith}
 use lib.ListN.{length, take, drop, length-drop}
 use lib.Seq.{drop-drop}
 use Rattle.memory.specs.Memory.{peekOf}
-use Rattle.listing.specs.Disassemble.{entryAt}
 use Rattle.image.specs.declared.FirstRecord.{FirstRecord}
 use Rattle.image.specs.declared.FirstRecord.the-variants.{Record as FoundRecord, NoRecord}
 use Rattle.image.specs.Format.{Record}
@@ -18,11 +17,10 @@ use Rattle.image.proofs.FirstLaws.{Behind, first-behind, none-behind}
 use Rattle.report.specs.declared.Report.{Report}
 use Rattle.report.specs.declared.page.Page.{Page}
 use Rattle.report.specs.declared.instructions.Next.{Next}
-use Rattle.report.specs.Text.{linesText}
-use Rattle.report.specs.Reading.{memoryWords, inputLimit, bodyRecords, recordsOf}
+use Rattle.report.specs.Reading.{memoryWords, inputLimit, recordsOf}
 use Rattle.report.specs.Instructions.{instructionLine, linesFrom, instructionLines}
 use Rattle.report.specs.Report.{recordLines, recordsLines}
-use Rattle.report.specs.Page.{Puts, Adds, emptyPage, Ready, Fills, Steps}
+use Rattle.report.specs.Page.{Adds, emptyPage, Ready, Fills, Steps}
 use Rattle.report.proofs.PageLaws.{puts-length, adds-none, adds-then, adds-line}
 use Rattle.report.proofs.LineLaws.{words-some, line-short, lines-on, lines-end, record-size, record-few}
 

@@ -1,4 +1,5 @@
 // Puts the pieces of a text into the lent room, one behind the other. Each answers the place behind what it put.
+ghost use mathlib.Core.Path.{_≡_};
 ghost use mathlib.Core.List.{[], _∷_, _++_};
 ghost use Prim.Native.Nat.{_+_, _<_, _≤_};
 ghost use lib.ListN.{length};
@@ -41,7 +42,7 @@ pub(crate) fn put_bytes(room: &mut [u8], at: usize, bytes: &[u8]) -> usize
 // A number as four hexadecimal digits.
 pub(crate) fn put_hex(room: &mut [u8], at: usize, word: u16) -> usize
     requires { ⌜ at + 4 ≤ length (now room) ⌝ }
-    ensures { λ r. ⌜ Puts (now (room .entry)) at (hexOf word) (now (room .exit)) r ⌝ }
+    ensures { λ r. ⌜ Puts (now (room .entry)) at (hexOf word) (now (room .exit)) r × (r ≡ at + 4) ⌝ }
 {
     let second = put_byte(room, at, listing::hex_digit(word / 4096));
     let third = put_byte(room, second, listing::hex_digit(word / 256));
@@ -52,7 +53,7 @@ pub(crate) fn put_hex(room: &mut [u8], at: usize, word: u16) -> usize
 // A number and the space behind it.
 pub(crate) fn put_field(room: &mut [u8], at: usize, word: u16) -> usize
     requires { ⌜ at + 5 ≤ length (now room) ⌝ }
-    ensures { λ r. ⌜ Puts (now (room .entry)) at (hexOf word ++ (space ∷ [])) (now (room .exit)) r ⌝ }
+    ensures { λ r. ⌜ Puts (now (room .entry)) at (hexOf word ++ (space ∷ [])) (now (room .exit)) r × (r ≡ at + 5) ⌝ }
 {
     let behind = put_hex(room, at, word);
     put_byte(room, behind, SPACE)
@@ -61,7 +62,7 @@ pub(crate) fn put_field(room: &mut [u8], at: usize, word: u16) -> usize
 // A number of one decimal digit or two.
 fn put_decimal(room: &mut [u8], at: usize, number: u16) -> usize
     requires { ⌜ (number < 100) × (at + 2 ≤ length (now room)) ⌝ }
-    ensures { λ r. ⌜ Puts (now (room .entry)) at (decimalOf number) (now (room .exit)) r ⌝ }
+    ensures { λ r. ⌜ Puts (now (room .entry)) at (decimalOf number) (now (room .exit)) r × (r ≤ at + 2) ⌝ }
 {
     if number < 10 {
         return put_byte(room, at, b'0' + number as u8);
@@ -90,7 +91,7 @@ pub(crate) fn put_refusal(room: &mut [u8], refusal: Refusal) -> usize
 // A line with a number: the first one and the last.
 pub(crate) fn put_numbered(room: &mut [u8], at: usize, name: &[u8], number: u16) -> usize
     requires { ⌜ at + (length (now name) + 5) ≤ length (now room) ⌝ }
-    ensures { λ r. ⌜ Puts (now (room .entry)) at (lineText (now (name .entry) ++ hexOf number)) (now (room .exit)) r ⌝ }
+    ensures { λ r. ⌜ Puts (now (room .entry)) at (lineText (now (name .entry) ++ hexOf number)) (now (room .exit)) r × (r ≡ at + (length (now (name .entry)) + 5)) ⌝ }
 {
     let digits = put_bytes(room, at, name);
     let end = put_hex(room, digits, number);

@@ -16,7 +16,7 @@ const LIMIT: u16 = 0;
 
 fn put_wait(room: &mut [u8], at: usize, longest: LongestWait) -> usize
     requires { ⌜ at + 17 ≤ length (now room) ⌝ }
-    ensures { λ r. ⌜ Puts (now (room .entry)) at (waitText (longestOf longest)) (now (room .exit)) r ⌝ }
+    ensures { λ r. ⌜ Puts (now (room .entry)) at (waitText (longestOf longest)) (now (room .exit)) r × (r ≤ at + 17) ⌝ }
 {
     match longest {
         LongestWait::NoWait => page::put_bytes(room, at, b"WAIT NONE"),
@@ -31,7 +31,7 @@ fn put_wait(room: &mut [u8], at: usize, longest: LongestWait) -> usize
 
 fn put_over(room: &mut [u8], at: usize, lowest: LowestOver) -> usize
     requires { ⌜ at + 9 ≤ length (now room) ⌝ }
-    ensures { λ r. ⌜ Puts (now (room .entry)) at (overText (lowestOf lowest)) (now (room .exit)) r ⌝ }
+    ensures { λ r. ⌜ Puts (now (room .entry)) at (overText (lowestOf lowest)) (now (room .exit)) r × (r ≤ at + 9) ⌝ }
 {
     match lowest {
         LowestOver::NoOver => page::put_bytes(room, at, b"OVER NONE"),

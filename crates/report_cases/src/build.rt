@@ -8,7 +8,7 @@
 ghost use Prim.Native.Nat.{_≤_};
 ghost use lib.ListN.{length};
 ghost use Rattle.io.specs.Counts.{Counts};
-use crate::text;
+use harness::text;
 
 pub(crate) fn name_of(row: &[u8]) -> &[u8] {
     text::from_column(row, 19)
@@ -27,7 +27,7 @@ fn put_byte(room: &mut [u8], size: usize, byte: u8) -> usize
 }
 
 // The same word again and again.
-fn put_words(room: &mut [u8], start: usize, word: u16, count: usize) -> usize
+fn put_words(room: &mut [u8], start: usize, word: u16, count: u64) -> usize
     requires { ⌜ start ≤ length (now room) ⌝ }
     ensures { λ r. ⌜ r ≤ length (now (room .entry)) ⌝ }
 {
@@ -40,16 +40,16 @@ fn put_words(room: &mut [u8], start: usize, word: u16, count: usize) -> usize
 }
 
 // The words of a first row, if this is the byte that they stand before.
-fn put_filling(room: &mut [u8], size: usize, first: &[u8], byte: usize) -> usize
+fn put_filling(room: &mut [u8], size: usize, first: &[u8], byte: u64) -> usize
     requires { ⌜ size ≤ length (now room) ⌝ }
     ensures { λ r. ⌜ r ≤ length (now (room .entry)) ⌝ }
 {
-    if byte == text::decimal(first, 12) {
+    if byte == text::decimal(first, 12, 6) {
         return put_words(
             room,
             size,
             text::hex_word(first, 7),
-            text::decimal(first, 0),
+            text::decimal(first, 0, 6),
         );
     }
     size

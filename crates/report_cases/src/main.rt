@@ -1,8 +1,8 @@
 // Prints what both programs print of hand-made inputs: for each case a line with its name, the listing, and the metering. The cases stand in
 // the file `stdin`, whose head says how a case is written, and `stdout` has what is to be printed.
 mod build;
-mod text;
 
+use harness::text;
 use libc::STDIN_FILENO;
 use libc::STDOUT_FILENO;
 use report::Report;

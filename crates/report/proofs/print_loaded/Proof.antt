@@ -1,12 +1,20 @@
+-- The loader's answer decides: its refusal's line, or the text of the records.
 use native.Mathlib.Omega.{arith}
-use Rattle.image.proofs.FirstLaws.{loaded-whole}
 use borrow.Author.Needs.{needs}
+use Rattle.image.proofs.FirstLaws.{loaded-whole}
 use Rattle.report.proofs.print_loaded.Statement.{statement}
 use Rattle.report.proofs.print_loaded.Tie as tie
 
 put-report-requires : tie.Need-put-report-requires
-put-report-requires c κs = let p = c .before .before .before .before .before .before .before .before .before .before .before .pre in
-    (record { size = omega arith; short = p .1; whole-file = rw (p .0) at (loaded-whole _ _ _ (c .before .before .before .before .before .before .load .ensures) (c .before .before .enum-told .given .1)) }, omega arith)
+put-report-requires c κs =
+    let p = c .before .before .before .before .before .before .before .before .before .before .before .pre in (
+      record {
+        size = omega arith;
+        short = p .1;
+        whole-file = rw (p .0) at (loaded-whole _ _ _ (c .before .before .before .before .before .before .load .ensures) (c .before .before .enum-told .given .1));
+      },
+      omega arith,
+    )
 
 returns : tie.Need-returns
 returns c = rw (← c .before .before .before .before .before .before .before .before .before .load .ensures, c .before .before .before .before .before .answer .given .1) (c .before .before .put-refusal .ensures)

@@ -1,32 +1,34 @@
+-- The disassembler refuses nothing here; its line stands behind the address and a space.
 use native.Mathlib.Omega.{arith}
+use borrow.Author.Needs.{needs}
 use lib.Dec.{lit≤}
 use Rattle.memory.specs.Memory.{peekOf}
-use Rattle.report.proofs.LineLaws.{field-length, text-short, instruction-pieces}
+use Rattle.report.proofs.LineLaws.{instruction-pieces}
 use Rattle.report.proofs.CallLaws.{listed-line, listed-surely}
 use Rattle.report.proofs.PageLaws.{puts-then, puts-as}
-use borrow.Author.Needs.{needs}
 use Rattle.report.proofs.instructions.put_line.Statement.{statement}
 use Rattle.report.proofs.instructions.put_line.Tie as tie
 
 part-put-bytes-end : tie.Need-part-put-bytes-end
-part-put-bytes-end c = let a = c .before .before .before .before .before .before .before .before .before .before .before .before .before .before .args in
-    omega (arith, listed-line _ _ _ _ _ (c .before .before .before .before .before .before .before .before .before .before .disassemble .ensures) (c .before .before .before .before .before .before .before .before .before .before .before .before .before .before .pre .0) (lit≤ tt) (c .before .before .before .before .before .before .before .listed .given .1) .size-is, text-short (peekOf (a .memory .now)) (a .address) (a .double))
+part-put-bytes-end c =
+    omega (arith, listed-line _ _ _ _ _ (c .before .before .before .before .before .before .before .before .before .before .disassemble .ensures) (c .before .before .before .before .before .before .before .before .before .before .before .before .before .before .pre .0) (lit≤ tt) (c .before .before .before .before .before .before .before .listed .given .1) .short)
 
 put-bytes-requires : tie.Need-put-bytes-requires
-put-bytes-requires c κs = let a = c .before .before .before .before .before .before .before .before .before .before .before .before .before .before .before .args in
-    let l = listed-line _ _ _ _ _ (c .before .before .before .before .before .before .before .before .before .before .before .disassemble .ensures) (c .before .before .before .before .before .before .before .before .before .before .before .before .before .before .before .pre .0) (lit≤ tt) (c .before .before .before .before .before .before .before .before .listed .given .1) in
-    rw (l .text-is) (omega (arith, c .before .before .before .before .before .put-field .ensures .place, field-length (a .address), text-short (peekOf (a .memory .now)) (a .address) (a .double)))
+put-bytes-requires c κs =
+    omega (arith, listed-line _ _ _ _ _ (c .before .before .before .before .before .before .before .before .before .before .before .disassemble .ensures) (c .before .before .before .before .before .before .before .before .before .before .before .before .before .before .before .pre .0) (lit≤ tt) (c .before .before .before .before .before .before .before .before .listed .given .1) .text-short)
 
 end-line-requires : tie.Need-end-line-requires
-end-line-requires c κs = let a = c .before .before .before .before .before .before .before .before .before .before .before .before .before .before .before .before .before .before .before .args in
-    let l = listed-line _ _ _ _ _ (c .before .before .before .before .before .before .before .before .before .before .before .before .before .before .before .disassemble .ensures) (c .before .before .before .before .before .before .before .before .before .before .before .before .before .before .before .before .before .before .before .pre .0) (lit≤ tt) (c .before .before .before .before .before .before .before .before .before .before .before .before .listed .given .1) in
-    omega (arith, c .before .before .before .before .before .before .before .before .before .put-field .ensures .place, field-length (a .address), text-short (peekOf (a .memory .now)) (a .address) (a .double), rw (l .text-is) at (c .before .before .before .put-bytes .ensures .place))
+end-line-requires c κs =
+    omega (arith, listed-line _ _ _ _ _ (c .before .before .before .before .before .before .before .before .before .before .before .before .before .before .before .disassemble .ensures) (c .before .before .before .before .before .before .before .before .before .before .before .before .before .before .before .before .before .before .before .pre .0) (lit≤ tt) (c .before .before .before .before .before .before .before .before .before .before .before .before .listed .given .1) .text-short, c .before .before .before .put-bytes .ensures .place)
 
 returns : tie.Need-returns
-returns c = let a = c .before .before .before .before .before .before .before .before .before .before .before .before .before .before .before .before .before .before .before .before .before .before .args in
+returns c =
+    let a = c .before .before .before .before .before .before .before .before .before .before .before .before .before .before .before .before .before .before .before .before .before .before .args in
     let l = listed-line _ _ _ _ _ (c .before .before .before .before .before .before .before .before .before .before .before .before .before .before .before .before .before .before .disassemble .ensures) (c .before .before .before .before .before .before .before .before .before .before .before .before .before .before .before .before .before .before .before .before .before .before .pre .0) (lit≤ tt) (c .before .before .before .before .before .before .before .before .before .before .before .before .before .before .before .listed .given .1) in
     record {
-      puts = puts-as (instruction-pieces (peekOf (a .memory .now)) (a .address) (a .double)) (puts-then (c .before .before .before .before .before .before .before .before .before .before .before .before .put-field .ensures) (puts-then (rw (l .text-is) at (c .before .before .before .before .before .before .put-bytes .ensures)) (c .before .before .end-line .ensures)));
+      puts =
+          puts-as (instruction-pieces (peekOf (a .memory .now)) (a .address) (a .double))
+          (puts-then (c .before .before .before .before .before .before .before .before .before .before .before .before .put-field .ensures .0) (puts-then (puts-as (l .text-is) (c .before .before .before .before .before .before .put-bytes .ensures)) (c .before .before .end-line .ensures)));
       words = l .words-are;
       under = l .next-is;
     }

@@ -1,6 +1,7 @@
-use borrow.Author.Needs.{needs}
+-- The loop over the instructions of a record, by the record `Listed`.
 use Prim.Native.Nat.{_+_, _-_}
 use native.Mathlib.Omega.{arith}
+use borrow.Author.Needs.{needs}
 use Rattle.memory.specs.Memory.{peekOf}
 use Rattle.report.proofs.LineLaws.{words-some}
 use Rattle.report.proofs.WalkLaws.{Listed, listed-none, listed-length, listed-on, listed-end}
@@ -8,34 +9,24 @@ use Rattle.report.proofs.instructions.put_lines.Statement.{statement}
 use Rattle.report.proofs.instructions.put_lines.Tie as tie
 
 abbrev Inv-loop : tie.InvT-loop
-Inv-loop memory address count room₀ end next₀ double₀ at₀ lines₀ room next double at lines = Listed memory address count room₀ (record { at = at₀; lines = lines₀ }) room next double at lines
+Inv-loop memory address count room₀ end next₀ double₀ at₀ lines₀ room next double at lines =
+    Listed memory address count room₀ (record { at = at₀; lines = lines₀ }) room next double at lines
 
 abbrev μ-loop : tie.MeasureT-loop
 μ-loop memory address count room₀ end next₀ double₀ at₀ lines₀ room next double at lines = address + count - next
 
-add-end : tie.Need-add-end Inv-loop μ-loop
-add-end c = omega arith
-
 loop-holds : tie.Need-loop-holds Inv-loop μ-loop
 loop-holds c = listed-none _ _ _ _ _ (c .before .before .pre .2)
 
-cast-put-line : tie.Need-cast-put-line Inv-loop μ-loop
-cast-put-line c = omega arith
-
 put-line-requires : tie.Need-put-line-requires Inv-loop μ-loop
 put-line-requires c κs = (c .before .before .before .before .before .pre .0, omega (arith, c .before .before .loop .inv .space, listed-length (c .before .before .loop .inv)))
-
-cast-next : tie.Need-cast-next Inv-loop μ-loop
-cast-next c = search needs
-
-add-next : tie.Need-add-next Inv-loop μ-loop
-add-next c = search needs
 
 add-lines : tie.Need-add-lines Inv-loop μ-loop
 add-lines c = omega (arith, c .before .before .before .before .before .before .loop .inv .few)
 
 loop-less : tie.Need-loop-less Inv-loop μ-loop
-loop-less c = omega (arith, c .before .before .before .put-line .ensures .words, words-some (peekOf (c .before .before .before .before .before .before .before .before .before .args .memory .now)) (c .before .before .before .before .before .before .loop .next) (c .before .before .before .before .before .before .loop .double))
+loop-less c =
+    omega (arith, c .before .before .before .put-line .ensures .words, words-some (peekOf (c .before .before .before .before .before .before .before .before .before .args .memory .now)) (c .before .before .before .before .before .before .loop .next) (c .before .before .before .before .before .before .loop .double))
 
 loop-again : tie.Need-loop-again Inv-loop μ-loop
 loop-again c = listed-on (c .before .before .before .before .before .before .loop .inv) (c .before .before .before .before .before .loop-test .taken) (c .before .before .before .put-line .ensures)
@@ -52,12 +43,12 @@ put-lines-spec =
     (tie.spec
     Inv-loop
     μ-loop
-    add-end
+    (λ c. search needs)
     loop-holds
-    cast-put-line
+    (λ c. search needs)
     put-line-requires
-    cast-next
-    add-next
+    (λ c. search needs)
+    (λ c. search needs)
     add-lines
     loop-less
     loop-again

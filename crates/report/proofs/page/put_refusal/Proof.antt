@@ -1,22 +1,19 @@
-use native.Mathlib.Omega.{arith}
-use Rattle.refusal.specs.Refusals.{refusalNumber}
+-- The word, the refusal's number and the line's end.
+use borrow.Author.Needs.{needs}
 use Rattle.report.specs.Report.{refusedLine}
-use Rattle.report.proofs.LineLaws.{decimal-short}
 use Rattle.report.proofs.CallLaws.{number-short}
 use Rattle.report.proofs.PageLaws.{puts-then}
-use borrow.Author.Needs.{needs}
 use Rattle.report.proofs.page.put_refusal.Statement.{statement}
 use Rattle.report.proofs.page.put_refusal.Tie as tie
 
 put-decimal-requires : tie.Need-put-decimal-requires
-put-decimal-requires c κs = (rw (c .number .ensures) (number-short (c .before .before .before .before .before .before .before .before .args .refusal)), omega (arith, c .before .before .before .before .put-bytes .ensures .place))
-
-end-line-requires : tie.Need-end-line-requires
-end-line-requires c κs = omega (arith, decimal-short (c .before .before .before .before .number .result), c .before .before .before .put-decimal .ensures .place, c .before .before .before .before .before .before .before .before .put-bytes .ensures .place)
+put-decimal-requires c κs = (rw (c .number .ensures) (number-short (c .before .before .before .before .before .before .before .before .args .refusal)), search needs)
 
 returns : tie.Need-returns
 unfolding refusedLine
-returns c = rw (← c .before .before .before .before .before .before .before .number .ensures) (puts-then (puts-then (c .before .before .before .before .before .before .before .before .before .before .before .put-bytes .ensures) (c .before .before .before .before .before .before .put-decimal .ensures)) (c .before .before .end-line .ensures))
+returns c =
+    rw (← c .before .before .before .before .before .before .before .number .ensures)
+    (puts-then (puts-then (c .before .before .before .before .before .before .before .before .before .before .before .put-bytes .ensures) (c .before .before .before .before .before .before .put-decimal .ensures .0)) (c .before .before .end-line .ensures))
 
 pub put-refusal-spec : {M : Type 1} → statement M
 put-refusal-spec =
@@ -26,6 +23,6 @@ put-refusal-spec =
     (λ c κs. search needs)
     (λ c κs. search needs)
     put-decimal-requires
-    end-line-requires
+    (λ c κs. search needs)
     (λ c. search needs)
     returns)

@@ -1,3 +1,4 @@
+-- One line an instruction, or one line a record.
 use borrow.Author.Needs.{needs}
 use Rattle.report.proofs.records.put_record.Statement.{statement}
 use Rattle.report.proofs.records.put_record.Tie as tie

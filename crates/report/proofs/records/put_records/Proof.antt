@@ -1,3 +1,4 @@
+-- The loop over the records of a file, by the record `Walked`.
 use Prim.Native.Nat.{_-_}
 use native.Mathlib.Omega.{arith}
 use borrow.Author.Needs.{needs}
@@ -15,54 +16,37 @@ abbrev μ-loop : tie.MeasureT-loop
 loop-holds : tie.Need-loop-holds Inv-loop μ-loop
 loop-holds c = walked-none _ _ _ _ _ (omega (arith, c .before .before .before .pre .1)) (c .before .before .before .pre .0)
 
-sub-first-record : tie.Need-sub-first-record Inv-loop μ-loop
-sub-first-record c = search needs
-
-part-first-record-start : tie.Need-part-first-record-start Inv-loop μ-loop
-part-first-record-start c = search needs
-
-part-first-record-end : tie.Need-part-first-record-end Inv-loop μ-loop
-part-first-record-end c = search needs
-
-first-record-requires : tie.Need-first-record-requires Inv-loop μ-loop
-first-record-requires c κs = search needs
-
-enum-known-first : tie.Need-enum-known-first Inv-loop μ-loop
-enum-known-first c = search needs
-
 put-record-requires : tie.Need-put-record-requires Inv-loop μ-loop
-put-record-requires c κs = let k = c .before .before .before .before .before .before .loop .inv in
+put-record-requires c κs =
+    let k = c .before .before .before .before .before .before .loop .inv in
     let r = c .before .before .before .before .before .before .before .before .before .before .pre .0 in
     let b = walked-record _ k (r .size) (c .before .before .before .before .first-record .ensures) (c .before .before .first .given .1) in
-    let w = walked-within _ k (r .size) (c .before .before .before .before .first-record .ensures) (c .before .before .first .given .1) in
-    (r .size, b .sound .some, b .sound .within, omega (arith, k .size, walked-length k, w, r .short, c .before .before .before .before .before .before .before .before .before .before .pre .1), omega (arith, k .few, k .within, r .short))
-
-cast-from : tie.Need-cast-from Inv-loop μ-loop
-cast-from c = search needs
-
-mul-from : tie.Need-mul-from Inv-loop μ-loop
-mul-from c = search needs
-
-add-from : tie.Need-add-from Inv-loop μ-loop
-add-from c = search needs
+    let w = walked-within _ k (r .size) (c .before .before .before .before .first-record .ensures) (c .before .before .first .given .1) in (
+      r .size,
+      b .sound .some,
+      b .sound .within,
+      omega (arith, k .size, walked-length k, w, r .short, c .before .before .before .before .before .before .before .before .before .before .pre .1),
+      omega (arith, k .few, k .within, r .short),
+    )
 
 add-from-2 : tie.Need-add-from-2 Inv-loop μ-loop
-add-from-2 c = omega (arith, walked-within _ (c .before .before .before .before .before .before .before .before .before .loop .inv) (c .before .before .before .before .before .before .before .before .before .before .before .before .before .pre .0 .size) (c .before .before .before .before .before .before .before .first-record .ensures) (c .before .before .before .before .before .first .given .1))
+add-from-2 c =
+    omega (arith, walked-within _ (c .before .before .before .before .before .before .before .before .before .loop .inv) (c .before .before .before .before .before .before .before .before .before .before .before .before .before .pre .0 .size) (c .before .before .before .before .before .before .before .first-record .ensures) (c .before .before .before .before .before .first .given .1))
 
 loop-less : tie.Need-loop-less Inv-loop μ-loop
-loop-less c = omega (arith, walked-within _ (c .before .before .before .before .before .before .before .before .before .loop .inv) (c .before .before .before .before .before .before .before .before .before .before .before .before .before .pre .0 .size) (c .before .before .before .before .before .before .before .first-record .ensures) (c .before .before .before .before .before .first .given .1))
+loop-less c =
+    omega (arith, walked-within _ (c .before .before .before .before .before .before .before .before .before .loop .inv) (c .before .before .before .before .before .before .before .before .before .before .before .before .before .pre .0 .size) (c .before .before .before .before .before .before .before .first-record .ensures) (c .before .before .before .before .before .first .given .1))
 
 loop-again : tie.Need-loop-again Inv-loop μ-loop
-loop-again c = walked-on _ (c .before .before .before .before .before .before .before .before .before .loop .inv) (c .before .before .before .before .before .before .before .before .before .before .before .before .before .pre .0 .size) (c .before .before .before .before .before .before .before .first-record .ensures) (c .before .before .before .before .before .first .given .1) (c .before .before .put-record .ensures)
-
-enum-told : tie.Need-enum-told Inv-loop μ-loop
-enum-told c = search needs
+loop-again c =
+    walked-on _ (c .before .before .before .before .before .before .before .before .before .loop .inv) (c .before .before .before .before .before .before .before .before .before .before .before .before .before .pre .0 .size) (c .before .before .before .before .before .before .before .first-record .ensures) (c .before .before .before .before .before .first .given .1) (c .before .before .put-record .ensures)
 
 same-length : tie.Need-same-length Inv-loop μ-loop
 same-length c = walked-length (c .before .before .before .before .loop .inv)
 
 returns : tie.Need-returns Inv-loop μ-loop
-returns c = walked-end _ (c .before .before .before .before .loop .inv) (c .before .before .before .before .before .before .before .before .pre .0 .size) (c .before .before .first-record .ensures) (c .enum-told .given .1) (c .before .before .before .before .before .before .before .before .pre .0 .short)
+returns c =
+    walked-end _ (c .before .before .before .before .loop .inv) (c .before .before .before .before .before .before .before .before .pre .0 .size) (c .before .before .first-record .ensures) (c .enum-told .given .1) (c .before .before .before .before .before .before .before .before .pre .0 .short)
 
 pub put-records-spec : {M : Type 1} → statement M
 put-records-spec =
@@ -71,18 +55,18 @@ put-records-spec =
     Inv-loop
     μ-loop
     loop-holds
-    sub-first-record
-    part-first-record-start
-    part-first-record-end
-    first-record-requires
-    enum-known-first
+    (λ c. search needs)
+    (λ c. search needs)
+    (λ c. search needs)
+    (λ c κs. search needs)
+    (λ c. search needs)
     put-record-requires
-    cast-from
-    mul-from
-    add-from
+    (λ c. search needs)
+    (λ c. search needs)
+    (λ c. search needs)
     add-from-2
     loop-less
     loop-again
-    enum-told
+    (λ c. search needs)
     same-length
     returns)

@@ -1,19 +1,19 @@
+-- The first line, the lines of the records, and the last line.
 use mathlib.Core.Path.{_≡_, _∙_}
 use native.Mathlib.Omega.{arith}
-use Rattle.listing.specs.Rows.{codes}
-use Rattle.report.specs.Reading.{boardNumber, recordsOf}
-use Rattle.report.specs.Report.{recordsLines, boardLine, endLine, endNumber, loadedText}
-use Rattle.report.proofs.LineLaws.{numbered-length, end-number}
-use Rattle.report.proofs.PageLaws.{puts-then}
 use borrow.Author.Needs.{needs}
+use Rattle.report.specs.Reading.{recordsOf}
+use Rattle.report.specs.Report.{recordsLines, boardLine, endLine, endNumber, loadedText}
+use Rattle.report.proofs.LineLaws.{end-number}
+use Rattle.report.proofs.PageLaws.{puts-then}
 use Rattle.report.proofs.records.put_report.Statement.{statement}
 use Rattle.report.proofs.records.put_report.Tie as tie
 
 put-records-requires : tie.Need-put-records-requires
-put-records-requires c κs = (c .before .before .before .before .before .before .before .before .before .pre .0, omega (arith, c .before .before .before .put-numbered .ensures .place, numbered-length (codes "BOARD ") boardNumber, c .before .before .before .before .before .before .before .before .before .pre .1))
+put-records-requires c κs = (c .before .before .before .before .before .before .before .before .before .pre .0, omega (arith, c .before .before .before .put-numbered .ensures .1, c .before .before .before .before .before .before .before .before .before .pre .1))
 
 put-numbered-requires-2 : tie.Need-put-numbered-requires-2
-put-numbered-requires-2 c κs = omega (arith, c .before .before .before .before .before .put-records .ensures .size, c .before .before .before .before .before .before .before .before .before .put-numbered .ensures .place, numbered-length (codes "BOARD ") boardNumber, c .before .before .before .before .before .before .before .before .before .before .before .before .before .before .before .pre .1)
+put-numbered-requires-2 c κs = omega (arith, c .before .before .before .before .before .put-records .ensures .size, c .before .before .before .before .before .before .before .before .before .put-numbered .ensures .1, c .before .before .before .before .before .before .before .before .before .before .before .before .before .before .before .pre .1)
 
 returns : tie.Need-returns
 unfolding loadedText boardLine endLine
@@ -24,7 +24,7 @@ returns c =
     let n : endNumber (a .report) (recordsLines (a .report) (a .memory .now) rs) rs ≡ c .before .before .before .before .before .before .before .before .put-records .result .lines =
     end-number (a .report) (a .memory .now) rs ∙ omega (arith, f .count)
     in
-    rw n (puts-then (c .before .before .before .before .before .before .before .before .before .before .before .before .put-numbered .ensures) (puts-then (f .puts) (c .before .before .put-numbered2 .ensures)))
+    rw n (puts-then (c .before .before .before .before .before .before .before .before .before .before .before .before .put-numbered .ensures .0) (puts-then (f .puts) (c .before .before .put-numbered2 .ensures .0)))
 
 pub put-report-spec : {M : Type 1} → statement M
 put-report-spec =

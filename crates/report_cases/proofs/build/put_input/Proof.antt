@@ -1,7 +1,6 @@
 -- `put_input` is safe and ends: each turn passes a byte of the row, and what is put stays within the room.
 use Prim.Native.Nat.{_+_, _≤_}
 use mathlib.Core.Path.{_≡_, sym}
-use native.Mathlib.Omega.{arith}
 use lib.ListN.{length}
 use lib.Seq.{length-take-le}
 use borrow.Author.Needs.{needs}
