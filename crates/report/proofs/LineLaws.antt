@@ -1,7 +1,7 @@
 -- How long the lines are, how many there are, and that each instruction has a word or more.
 use Prim.Native.Nat.{ℕ, zero, suc, _+_, _-_, _*_, _≤_, _<_}
-use mathlib.Core.Path.{_≡_, refl, ap}
-use mathlib.Core.Bool.{Bool, false, _&&_, _||_}
+use mathlib.Core.Path.{_≡_, refl, sym, ap}
+use mathlib.Core.Bool.{Bool, false, cond, _&&_, _||_}
 use mathlib.Core.List.{List, [], _∷_, _++_, append-assoc}
 use native.Mathlib.Omega.{arith}
 use borrow.Author.Tests.{lt-ltb, le-ltb}
@@ -30,6 +30,7 @@ use Rattle.report.specs.Text.{space, hexOf, lineText, linesText}
 use Rattle.report.specs.Instructions.{instructionLine, linesFrom, instructionLines}
 use Rattle.report.specs.Regions.{meteringLimit, waitText, overText, namedLine, regionLine}
 use Rattle.report.specs.Report.{recordLines, recordsLines, endNumber}
+use Rattle.report.specs.Laws.{EveryInstructionListed}
 
 -- every row has a word
 abbrev SomeWords : Row → Type 0
@@ -92,6 +93,16 @@ lines-on (suc n) read end at double z h = let e : suc n - 1 ≡ n = omega arith 
 pub lines-end : (n : ℕ) (read : ℕ → ℕ) (end at : ℕ) (double : Bool) → end ≤ at → linesFrom n read end at double ≡ []
 lines-end zero read end at double h = refl
 lines-end (suc n) read end at double h = cond-false _ _ (le-ltb at end h)
+
+pub every-instruction-listed : EveryInstructionListed
+every-instruction-listed zero zero read end at double h g = refl
+every-instruction-listed zero (suc k) read end at double h g = sym (lines-end (suc k) read end at double (omega arith))
+every-instruction-listed (suc n) zero read end at double h g = lines-end (suc n) read end at double (omega arith)
+every-instruction-listed (suc n) (suc k) read end at double h g =
+    let e = entryAt read at double in
+    let w = words-some read at double in
+    ap (λ (rest : List (List ℕ)). cond (ltb at end) (instructionLine read at double ∷ rest) [])
+    (every-instruction-listed n k read end (at + e .words) (e .double) (omega arith) (omega arith))
 
 lines-size : (n : ℕ) (read : ℕ → ℕ) (end at : ℕ) (double : Bool) → length (linesText (linesFrom n read end at double)) ≤ n * 20
 lines-size zero read end at double = lit≤ tt

@@ -4,4 +4,5 @@ pub mod Reading
 pub mod Instructions
 pub mod Regions
 pub mod Report
+pub mod Laws
 pub mod Page
