@@ -17,6 +17,7 @@ use cpu::State;
 use cpu::Status;
 use harness::text;
 use harness::text::hex_word;
+use harness::words;
 
 // Each word of the memory that a case does not name.
 const BACKGROUND: u16 = 0x5A5A;
@@ -79,7 +80,7 @@ fn are_words(words: &[u8]) -> bool {
 
 // Makes the memory that the step is given: the case's words, and the background elsewhere.
 pub(crate) fn lay_before(memory: &mut [u16], before: &[u8]) {
-    fill(memory);
+    words::fill(memory, BACKGROUND);
     put_words(memory, words_of(before));
 }
 
@@ -89,25 +90,10 @@ pub(crate) fn lay_after(memory: &mut [u16], before: &[u8], after: &[u8]) {
     put_words(memory, stores_of(after));
 }
 
-fn fill(memory: &mut [u16]) {
-    let mut i = 0;
-    while i < memory.len() {
-        memory[i] = BACKGROUND;
-        i += 1;
-    }
-}
-
 fn put_words(memory: &mut [u16], words: &[u8]) {
     for i in 0..words.len() / 10 {
         let word = text::from_column(words, i * 10);
-        put_word(memory, hex_word(word, 1), hex_word(word, 6));
-    }
-}
-
-fn put_word(memory: &mut [u16], address: u16, word: u16) {
-    let at = address as usize;
-    if at < memory.len() {
-        memory[at] = word;
+        memory::poke(memory, hex_word(word, 1), hex_word(word, 6));
     }
 }
 

@@ -1,2 +1,3 @@
--- Laws of rows.
+-- Laws of rows and of runs of words.
 pub mod TextLaws
+pub mod WordLaws

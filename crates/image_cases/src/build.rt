@@ -1,5 +1,6 @@
 // Memories and files for the cases, made without the kit's own loader and writer, and compared.
 use harness::text;
+use harness::words;
 
 // Each word and each byte that a case does not name.
 const BACKGROUND: u16 = 0x5A5A;
@@ -7,11 +8,7 @@ const BACKGROUND: u16 = 0x5A5A;
 const BLANK: u8 = 0xA5;
 
 pub(crate) fn blank_memory(memory: &mut [u16]) {
-    let mut i = 0;
-    while i < memory.len() {
-        memory[i] = BACKGROUND;
-        i += 1;
-    }
+    words::fill(memory, BACKGROUND);
 }
 
 pub(crate) fn blank_room(room: &mut [u8]) {
