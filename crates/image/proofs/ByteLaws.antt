@@ -14,13 +14,13 @@ use Rattle.image.specs.Format.{total}
 pub rest : (l : List ℕ) (at : ℕ) → take (length l - at) (drop at l) ≡ drop at l
 rest l at = take-all (length l - at) (drop at l) (omega (arith, length-drop at l))
 
-pub word-drop : (l : List ℕ) (n i : ℕ) → wordAt (drop n l) i ≡ wordAt l (n + i)
+word-drop : (l : List ℕ) (n i : ℕ) → wordAt (drop n l) i ≡ wordAt l (n + i)
 unfolding wordAt
 word-drop l n i =
     let e : n + i + 1 ≡ n + (i + 1) = omega arith in
     rw (getD-drop n l i 0, getD-drop n l (i + 1) 0, e)
 
-words-at : (c : ℕ) (l : List ℕ) (i : ℕ) → i < c → getD (wordsOf c l) i 0 ≡ wordAt l (i * 2)
+pub words-at : (c : ℕ) (l : List ℕ) (i : ℕ) → i < c → getD (wordsOf c l) i 0 ≡ wordAt l (i * 2)
 words-at zero l i h = absurd (not-suc-le-zero h)
 words-at (suc c) l zero h = refl
 words-at (suc c) l (suc i) h =
@@ -30,10 +30,6 @@ words-at (suc c) l (suc i) h =
 pub words-length : (c : ℕ) (l : List ℕ) → length (wordsOf c l) ≡ c
 words-length zero l = refl
 words-length (suc c) l = ap suc (words-length c (drop 2 l))
-
--- word i of a record, whose words stand behind six bytes
-pub record-word : (c : ℕ) (l : List ℕ) (i : ℕ) → i < c → getD (wordsOf c (drop 6 l)) i 0 ≡ wordAt l (6 + i * 2)
-record-word c l i h = words-at c (drop 6 l) i h ∙ word-drop l 6 (i * 2)
 
 pub bytes-length : (ws : List ℕ) → length (bytesOf ws) ≡ length ws * 2
 bytes-length [] = refl

@@ -2,23 +2,24 @@
 use Prim.Native.Nat.{ℕ, suc, _+_, _-_, _*_, _%_, _<_, _≤_}
 use mathlib.Core.Path.{_≡_, refl, sym, ap, _∙_}
 use mathlib.Core.Bool.{true, false}
-use mathlib.Core.List.{List, [], _∷_}
+use mathlib.Core.List.{List, _++_, map, map-append, append-nil, append-assoc}
 use native.Mathlib.Omega.{arith}
 use native.Mathlib.Numerals.{add-one}
+use borrow.Rule.Slice.PartMut.{midOf, postOf, putMid, mid-len, post-is}
 use lib.Dec.{lit<}
-use lib.ListN.{length, getD, take, drop, set, length-take, length-drop}
-use lib.Seq.{take-suc, take-length, drop-drop, sets, length-sets}
+use lib.ListN.{length, getD, take, drop, set, length-drop, length-set, drop-of-length-le}
+use lib.Seq.{take-suc, take-suc-set, take-length, length-take-le, take-all, take-at, drop-at, drop-cons, drop-drop, drop-set-lt, append-snoc}
 use Rattle.refusal.specs.declared.Refusal.{Refusal}
 use Rattle.image.specs.declared.parse.Part.{Part}
 use Rattle.image.specs.declared.parse.Part.the-variants.{Record as AtRecord, Tail, Offence}
 use Rattle.image.specs.declared.check.Checked.the-variants.{Whole, Broken}
 use Rattle.word.specs.Word.{wrapAdd}
 use Rattle.word.proofs.WordLaws.{add-low}
-use Rattle.image.specs.Bytes.{overwrite}
+use Rattle.image.specs.Bytes.{wordAt, wordsOf, overwrite}
 use Rattle.image.specs.Format.{Record, recordAt, total, recordSum, recordsSum}
 use Rattle.image.specs.Read.{partOf, Body, whole, broken, withRecord, follow, bodyOf}
 use Rattle.image.specs.Pass.{summary, isWhole, placedBody}
-use Rattle.image.proofs.ByteLaws.{rest, words-length, total-step, sets-split, overwrite-sets, overwrite-length}
+use Rattle.image.proofs.ByteLaws.{rest, words-at, words-length, total-step, overwrite-length}
 use Rattle.image.proofs.ReadLaws.{Sound, part-sound, body-law}
 
 -- a sum modulo 65,536 may be taken modulo 65,536 on the way
@@ -36,9 +37,9 @@ pub record Summing (ws : List ℕ) (i sum : ℕ) : Type 0 where
 pub summing : (ws : List ℕ) → Summing ws 0 0
 summing ws = record { within = omega arith; sums = refl }
 
-pub summing-on : {ws : List ℕ} {i sum w next : ℕ} → Summing ws i sum → i < length ws → w ≡ getD ws i 0 → next ≡ wrapAdd sum w → Summing ws (i + 1) next
+pub summing-on : {ws : List ℕ} {i sum next : ℕ} → Summing ws i sum → i < length ws → next ≡ wrapAdd sum (getD ws i 0) → Summing ws (i + 1) next
 unfolding wrapAdd
-summing-on {ws} {i} k h e f =
+summing-on {ws} {i} k h e =
     let t = total-step ws i h in
     let s = k .sums in
     record { within = omega arith; sums = omega arith }
@@ -50,34 +51,71 @@ summing-end {ws} {i} k h =
     k .sums ∙ rw (e, take-length)
 
 -- The sum of a record from the code's two sums: address and count, and its words.
-pub record-sums : (a c : ℕ) (ws : List ℕ) {x y r : ℕ} → length ws ≡ c → x ≡ wrapAdd a c → y ≡ total ws % 65536 → r ≡ wrapAdd x y
+pub record-sums : (a : ℕ) (ws : List ℕ) {x y r : ℕ} → x ≡ wrapAdd a (length ws) → y ≡ total ws % 65536 → r ≡ wrapAdd x y
     → r ≡ recordSum (record { address = a; words = ws }) % 65536
 unfolding wrapAdd
-record-sums a c ws l e f g = rw (g, e, f, l) (mod-left (a + c) (total ws % 65536) ∙ mod-right (a + c) (total ws))
+record-sums a ws e f g = rw (g, e, f) (mod-left (a + length ws) (total ws % 65536) ∙ mod-right (a + length ws) (total ws))
 
--- The first i of a run of words stored from an address on.
-pub record Laying (d₀ : List ℕ) (a : ℕ) (ws d : List ℕ) (i : ℕ) : Type 0 where
-  pub within : i ≤ length ws
-  pub laid : d ≡ sets d₀ a (take i ws)
+-- n words are read from bytes in two loops. After i turns of the first, f makes the first i words of what stands in d.
+pub record Copying (f : ℕ → ℕ) (n : ℕ) (bytes d : List ℕ) (i : ℕ) : Type 0 where
+  pub size : length d ≡ n
+  pub within : i ≤ n
+  pub copied : map f (take i d) ≡ take i (wordsOf n bytes)
 
-pub laying : (d : List ℕ) (a : ℕ) (ws : List ℕ) → Laying d a ws d 0
-laying d a ws = record { within = omega arith; laid = refl }
+-- After i turns of the second, the first i words stand in d, and f makes the others of what stands behind them.
+pub record Exchanging (f : ℕ → ℕ) (n : ℕ) (bytes d : List ℕ) (i : ℕ) : Type 0 where
+  pub size : length d ≡ n
+  pub within : i ≤ n
+  pub exchanged : take i d ++ map f (drop i d) ≡ wordsOf n bytes
 
-pub laying-length : {d₀ : List ℕ} {a : ℕ} {ws d : List ℕ} {i : ℕ} → Laying d₀ a ws d i → length d ≡ length d₀
-laying-length {d₀} {a} {ws} {d} {i} k = ap length (k .laid) ∙ length-sets d₀ a (take i ws)
+module _ {f : ℕ → ℕ} {n : ℕ} {bytes d : List ℕ} {i : ℕ} where
+  pub copying-on : {v : ℕ} → Copying f n bytes d i → i < length d → f v ≡ wordAt bytes (i * 2) → Copying f n bytes (set d i v) (i + 1)
+  copying-on {v} k h e =
+      let z = k .size in
+      let l : i < length (wordsOf n bytes) = omega (arith, words-length n bytes) in
+      record {
+        size = length-set d i v ∙ z;
+        within = omega arith;
+        copied = rw (add-one, take-suc-set d i v, map-append, take-suc (wordsOf n bytes) i 0, k .copied, words-at n bytes i (omega arith), e);
+      }
 
-pub laying-on : {d₀ : List ℕ} {a : ℕ} {ws d : List ℕ} {i w : ℕ} → Laying d₀ a ws d i → i < length ws → w ≡ getD ws i 0
-    → Laying d₀ a ws (set d (a + i) w) (i + 1)
-laying-on {d₀} {a} {ws} {d} {i} {w} k h e =
-    let lt = length-take i ws in
-    let n : length (take i ws) ≡ i = omega arith in
-    record { within = omega arith; laid = rw (add-one, take-suc ws i 0, sets-split d₀ a (take i ws) (getD ws i 0 ∷ []), n, k .laid, e) }
+  pub copying-end : Copying f n bytes d i → length d ≤ i → Exchanging f (length d) bytes d 0
+  copying-end k h =
+      let z = k .size in
+      let l : length (wordsOf n bytes) ≤ i = omega (arith, words-length n bytes) in
+      record {
+        size = refl;
+        within = omega arith;
+        exchanged = rw z (rw (take-all i d h, take-all i (wordsOf n bytes) l) at (k .copied));
+      }
 
-pub laying-end : {d₀ : List ℕ} {a : ℕ} {ws d : List ℕ} {i : ℕ} → Laying d₀ a ws d i → length ws ≤ i → a + length ws ≤ length d₀ → d ≡ overwrite d₀ a ws
-laying-end {d₀} {a} {ws} {d} {i} k h l =
-    let w = k .within in
-    let e : i ≡ length ws = omega arith in
-    k .laid ∙ rw (e, take-length) (sym (overwrite-sets d₀ a ws l))
+  pub exchanging-on : {v : ℕ} → Exchanging f n bytes d i → i < length d → v ≡ f (getD d i 0) → Exchanging f n bytes (set d i v) (i + 1)
+  exchanging-on {v} k h e =
+      record {
+        size = length-set d i v ∙ k .size;
+        within = omega (arith, k .size);
+        exchanged = rw (add-one, take-suc-set d i v, drop-set-lt (suc i) d i v (omega arith), append-snoc, e) (rw (drop-cons d i 0) at (k .exchanged));
+      }
+
+  pub exchanging-end : Exchanging f n bytes d i → length d ≤ i → d ≡ wordsOf n bytes
+  exchanging-end k h = rw (take-all i d h, drop-of-length-le d h, append-nil) at (k .exchanged)
+
+-- The n words behind a record's head are read into the part of d from a to e, which comes back as ys.
+module _ (d : List ℕ) (a e n : ℕ) (bytes : List ℕ) {ys : List ℕ} (span : e ≡ a + n) (room : e ≤ length d)
+    (read : ys ≡ wordsOf (length (midOf a (e - a) d)) (take (length bytes - 6) (drop 6 bytes))) where
+  words-read : ys ≡ wordsOf n (drop 6 bytes)
+  words-read =
+      let l : length (midOf a (e - a) d) ≡ n = omega (arith, mid-len a e d room) in
+      read ∙ rw (l, rest bytes 6)
+
+  pub words-stored : putMid a (e - a) d ys ≡ overwrite d a (wordsOf n (drop 6 bytes))
+  unfolding overwrite
+  words-stored = rw (words-read, post-is a e d (omega arith), words-length n (drop 6 bytes), append-assoc, span)
+
+  pub words-kept : midOf a (e - a) (putMid a (e - a) d ys) ≡ wordsOf n (drop 6 bytes)
+  words-kept =
+      let l : length ys ≡ e - a = ap length words-read ∙ words-length n (drop 6 bytes) ∙ omega arith in
+      rw (drop-at (take a d) (ys ++ postOf a (e - a) d) a (length-take-le a d (omega arith)), take-at ys (postOf a (e - a) d) (e - a) l) words-read
 
 -- One record more of a body: what the first pass makes of it.
 summary-on : (n sum next : ℕ) (r : Record) (b : Body) → next ≡ wrapAdd sum (recordSum r % 65536) → summary (n + 1) next b ≡ summary n sum (withRecord r b)

@@ -1,9 +1,8 @@
 // The loader's first pass: every record is tested and summed, and nothing is stored.
 ghost use mathlib.Core.Path.{_≡_};
 ghost use Prim.Native.Nat.{_+_, _*_, _%_, _≤_};
-ghost use lib.ListN.{length, drop};
-ghost use Rattle.image.specs.Bytes.{wordsOf};
-ghost use Rattle.image.specs.Format.{total, recordAt, recordSum};
+ghost use lib.ListN.{length};
+ghost use Rattle.image.specs.Format.{recordLimit, recordAt, recordSum};
 ghost use Rattle.image.specs.Read.{bodyOf};
 ghost use Rattle.image.specs.Pass.{summary};
 use crate::format;
@@ -21,36 +20,21 @@ pub(crate) enum Checked {
     Broken(Refusal),
 }
 
-// The sum of the first `count` words.
-fn sum_words(bytes: &[u8], count: u16) -> u16
-    requires { ⌜ 6 + count * 2 ≤ length (now bytes) ⌝ }
-    ensures { λ r. ⌜ r ≡ total (wordsOf count (drop 6 (now (bytes .entry)))) % 65536 ⌝ }
-{
-    let words = count as usize;
-    let mut sum: u16 = 0;
-    let mut i = 0;
-    while i < words {
-        sum = word::wrapping_add(
-            sum,
-            format::word_at(bytes, format::RECORD_HEAD_BYTES + i * 2),
-        );
-        i += 1;
-    }
-    sum
-}
-
-// Address, count and words: all but the mark.
-fn sum_record(bytes: &[u8], address: u16, count: u16) -> u16
-    requires { ⌜ 6 + count * 2 ≤ length (now bytes) ⌝ }
+// What the record at the front of `bytes` adds to the sum. Its words are read into the scratch room, since none may be stored yet.
+fn sum_record(bytes: &[u8], address: u16, count: u16, scratch: &mut [u16]) -> u16
+    requires { ⌜ (6 + count * 2 ≤ length (now bytes)) × (count ≤ recordLimit) × (recordLimit ≤ length (now scratch)) ⌝ }
     ensures { λ r. ⌜ r ≡ recordSum (recordAt address count (now (bytes .entry))) % 65536 ⌝ }
 {
-    word::wrapping_add(word::wrapping_add(address, count), sum_words(bytes, count))
+    let words = count as usize;
+    format::read_words(&bytes[format::RECORD_HEAD_BYTES..], &mut scratch[0..words]);
+    format::sum_record(address, &scratch[0..words])
 }
 
 // `body` is the file after its head, and `size` the length of the memory that it is for.
 pub(crate) fn check_records(body: &[u8], size: usize) -> Checked
     ensures { λ r. ⌜ r ≡ summary 0 0 (bodyOf size (now (body .entry))) ⌝ }
 {
+    let mut scratch = [0u16; format::RECORD_LIMIT];
     let mut at = 0;
     let mut records = 0;
     let mut sum: u16 = 0;
@@ -58,7 +42,10 @@ pub(crate) fn check_records(body: &[u8], size: usize) -> Checked
         let part = parse::read_part(&body[at..], size);
         match part {
             Part::Record { address, count } => {
-                sum = word::wrapping_add(sum, sum_record(&body[at..], address, count));
+                sum = word::wrapping_add(
+                    sum,
+                    sum_record(&body[at..], address, count, &mut scratch),
+                );
                 records += 1;
                 at += format::RECORD_HEAD_BYTES + count as usize * 2;
             }

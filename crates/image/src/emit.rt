@@ -4,7 +4,7 @@ ghost use Prim.Native.Nat.{_+_, _-_, _*_, _%_, _≤_, min};
 ghost use lib.ListN.{length};
 ghost use lib.Seq.{sets};
 ghost use Rattle.image.specs.Bytes.{bytesOf};
-ghost use Rattle.image.specs.Format.{recordLimit, total, recordOver, recordWords, recordSum, recordsWords, recordsSum, imageOf};
+ghost use Rattle.image.specs.Format.{recordLimit, recordOver, recordWords, recordsWords, recordsSum, imageOf};
 ghost use Rattle.image.specs.Write.{cutOf, imageLength, written, writing};
 use crate::WriteAnswer;
 use crate::format;
@@ -17,18 +17,6 @@ fn image_length(words: usize) -> usize
 {
     let records = (words + (format::RECORD_LIMIT - 1)) / format::RECORD_LIMIT;
     format::HEAD_BYTES + format::TAIL_BYTES + records * format::RECORD_HEAD_BYTES + words * 2
-}
-
-fn sum_words(words: &[u16]) -> u16
-    ensures { λ r. ⌜ r ≡ total (now (words .entry)) % 65536 ⌝ }
-{
-    let mut sum: u16 = 0;
-    let mut i = 0;
-    while i < words.len() {
-        sum = word::wrapping_add(sum, words[i]);
-        i += 1;
-    }
-    sum
 }
 
 fn put_words(room: &mut [u8], at: usize, words: &[u16])
@@ -51,16 +39,6 @@ fn put_record(room: &mut [u8], at: usize, address: u16, words: &[u16])
     format::put_word(room, at + 2, address);
     format::put_word(room, at + 4, words.len() as u16);
     put_words(room, at + format::RECORD_HEAD_BYTES, words);
-}
-
-fn sum_record(address: u16, words: &[u16]) -> u16
-    requires { ⌜ length (now words) ≤ recordLimit ⌝ }
-    ensures { λ r. ⌜ r ≡ recordSum (recordOver address (now (words .entry))) % 65536 ⌝ }
-{
-    word::wrapping_add(
-        word::wrapping_add(address, words.len() as u16),
-        sum_words(words),
-    )
 }
 
 // The place after a record that begins at a word of a region of `words` words.
@@ -87,7 +65,7 @@ fn put_records(room: &mut [u8], first: u16, region: &[u16]) -> u16
         let end = record_end(start, region.len());
         let address = (first as usize + start) as u16;
         put_record(room, at, address, &region[start..end]);
-        sum = word::wrapping_add(sum, sum_record(address, &region[start..end]));
+        sum = word::wrapping_add(sum, format::sum_record(address, &region[start..end]));
         at += format::RECORD_HEAD_BYTES + (end - start) * 2;
         start = end;
     }

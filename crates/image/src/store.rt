@@ -17,11 +17,8 @@ fn store_record(bytes: &[u8], address: u16, count: u16, mem: &mut [u16])
 {
     let words = count as usize;
     let start = address as usize;
-    let mut i = 0;
-    while i < words {
-        mem[start + i] = format::word_at(bytes, format::RECORD_HEAD_BYTES + i * 2);
-        i += 1;
-    }
+    let end = start + words;
+    format::read_words(&bytes[format::RECORD_HEAD_BYTES..], &mut mem[start..end]);
 }
 
 // `body` is the file after its head, which the first pass found whole.

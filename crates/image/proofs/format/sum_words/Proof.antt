@@ -1,11 +1,10 @@
 -- The sum of words, by the record `Summing`.
 use Prim.Native.Nat.{_-_}
-use mathlib.Core.Path.{refl}
 use borrow.Author.Needs.{needs}
 use lib.ListN.{length}
 use Rattle.image.proofs.PassLaws.{Summing, summing, summing-on, summing-end}
-use Rattle.image.proofs.emit.sum_words.Statement.{statement}
-use Rattle.image.proofs.emit.sum_words.Tie as tie
+use Rattle.image.proofs.format.sum_words.Statement.{statement}
+use Rattle.image.proofs.format.sum_words.Tie as tie
 
 abbrev Inv-loop : tie.InvT-loop
 Inv-loop words sum₀ i₀ sum i = Summing words i sum
@@ -17,7 +16,7 @@ loop-holds : tie.Need-loop-holds Inv-loop μ-loop
 loop-holds c = summing _
 
 loop-again : tie.Need-loop-again Inv-loop μ-loop
-loop-again c = summing-on (c .before .before .before .loop .inv) (c .before .before .loop-test .taken) refl (c .wrapping-add .ensures)
+loop-again c = summing-on (c .before .before .before .loop .inv) (c .before .before .loop-test .taken) (c .wrapping-add .ensures)
 
 returns : tie.Need-returns Inv-loop μ-loop
 returns c = summing-end (c .before .loop .inv) (c .loop-test .left)

@@ -1,0 +1,23 @@
+-- Exchanging the bytes once more gives the number.
+use native.Mathlib.Omega.{arith}
+use Rattle.image.specs.Bytes.{wordAt}
+use borrow.Author.Needs.{needs}
+use Rattle.image.proofs.format.exchanged_at.Statement.{statement}
+use Rattle.image.proofs.format.exchanged_at.Tie as tie
+
+returns : tie.Need-returns
+unfolding wordAt
+returns c = omega arith
+
+pub exchanged-at-spec : {M : Type 1} → statement M
+exchanged-at-spec =
+    tie.close
+    (tie.spec
+    (λ c. search needs)
+    (λ c κs. search needs)
+    (λ c. search needs)
+    (λ c. search needs)
+    (λ c κs. search needs)
+    (λ c. search needs)
+    (λ c. search needs)
+    returns)
