@@ -6,7 +6,7 @@ use Rattle.refusal.specs.Refusals.{refusalNumber}
 use Rattle.refusal.proofs.Laws.{numbers-apart}
 use Rattle.cpu.specs.declared.StepAnswer.{StepAnswer}
 use Rattle.cpu.specs.declared.StepAnswer.the-variants.{Refused, Granted, Interrupted, Executed}
-use Rattle.cpu.specs.Answer.{Reported, refused, answered, reported, AnswersApart}
+use Rattle.cpu.specs.Answer.{refused, answered, AnswersApart}
 
 -- two kinds whose numbers differ
 kinds : {A : Type 0} (a b : ℕ) {n m : ℕ} → (a ≡ b → ⊥) → answered a n ≡ answered b m → A

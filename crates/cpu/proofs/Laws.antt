@@ -1,7 +1,7 @@
 -- The laws of `specs/Laws`, but for soundness: by the ways that a step can go.
 use Prim.Native.Nat.{ℕ, _≤_}
 use mathlib.Core.Path.{_≡_, refl, ap, sym, subst}
-use mathlib.Core.Bool.{Bool, true, false, true≢false}
+use mathlib.Core.Bool.{true, false, true≢false}
 use mathlib.Core.List.{List}
 use native.Mathlib.Omega.{arith}
 use lib.Dec.{lit≤}
@@ -9,16 +9,14 @@ use lib.ListN.{length, getD}
 use Rattle.word.specs.Word.{wrapAdd}
 use Rattle.memory.specs.Memory.{peekOf, tooLong}
 use Rattle.memory.proofs.Laws.{poke-laws}
-use Rattle.decode.specs.declared.Instr.{Instr}
 use Rattle.decode.specs.Rows.{rowOf}
 use Rattle.decode.proofs.Laws.{row-bounds}
-use Rattle.cpu.specs.declared.Status.{Status}
 use Rattle.cpu.specs.declared.State.{State}
 use Rattle.cpu.specs.declared.Lines.{Lines}
 use Rattle.cpu.specs.State.{notedOf}
-use Rattle.cpu.specs.Store.{Store, keep, put, Effect, stored}
+use Rattle.cpu.specs.Store.{Store, keep, put, stored}
 use Rattle.cpu.specs.Answer.{Reported, refused, answered, cyclesOf, isUnspecified}
-use Rattle.cpu.specs.Step.{Action, refuse, granted, interrupted, executed, effectAt, kindOf, actionOf, made, stepOf}
+use Rattle.cpu.specs.Step.{Action, refuse, granted, interrupted, executed, effectAt, kindOf, actionOf, stepOf}
 use Rattle.cpu.specs.Laws.{RefusedKeepsAll, KeepsLength, ChangesOneWord, Costs, EveryCost}
 use Rattle.cpu.proofs.StepLaws.{at-kind, by-kind, by-action}
 use Rattle.cpu.proofs.RowLaws.{cost-least}

@@ -1,12 +1,11 @@
 -- Laws of the rows.
 use Prim.Native.Nat.{ℕ, _≤_, _-_}
 use mathlib.Core.Path.{_≡_, refl}
-use mathlib.Core.Bool.{Bool, true, false, cond}
+use mathlib.Core.Bool.{Bool}
 use mathlib.Core.List.{List}
 use native.Mathlib.Omega.{arith}
-use lib.Dec.{eqb, lit≤}
+use lib.Dec.{eqb}
 use Rattle.word.proofs.Choice.{cond-both}
-use Rattle.word.specs.Word.{wrapAdd}
 use Rattle.decode.specs.declared.Instr.{Instr}
 use Rattle.decode.specs.declared.Instr.the-variants.{Control, Single, Shift, Branch, Store, Operate}
 use Rattle.decode.specs.Rows.{rowOf}

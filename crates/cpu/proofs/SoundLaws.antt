@@ -1,13 +1,13 @@
 -- A step keeps registers and memory within 16-bit words, row by row.
-use Prim.Native.Nat.{ℕ, zero, suc, _+_, _*_, _/_, _%_, _<_}
-use mathlib.Core.Path.{_≡_, refl}
+use Prim.Native.Nat.{ℕ, zero, suc, _%_, _<_}
+use mathlib.Core.Path.{refl}
 use mathlib.Core.Bool.{Bool, cond}
 use mathlib.Core.List.{List, [], _∷_}
 use native.Mathlib.Nat.{lt-of-le-of-lt}
 use native.Mathlib.Omega.{arith}
-use lib.Bits.{bitAnd, bitXor, and-le-l, xor-lt}
+use lib.Bits.{and-le-l, xor-lt}
 use lib.Dec.{eqb, ltb, leb, lit<}
-use lib.ListN.{length, getD}
+use lib.ListN.{getD}
 use Rattle.word.specs.declared.Flagged.{Flagged}
 use Rattle.word.specs.Word.{wrapAdd, bit}
 use Rattle.word.specs.Flags.{withSign, setSZ, addOf, subtractOf, compareOf, fromStatus}
@@ -28,7 +28,7 @@ use Rattle.cpu.specs.Control.{controlOf, jumpOf, withCarry}
 use Rattle.cpu.specs.Single.{gswdOf, singleResult, singleOf, shiftedOf}
 use Rattle.cpu.specs.Branch.{takenOf, targetOf, branchedOf, branchOf}
 use Rattle.cpu.specs.Operate.{joinOf, plainOf, throughOf, autoOf, stackOf, immediateOf, fetchOf, sourceOf, destinationOf, transferOf, operationOf, operateOf}
-use Rattle.cpu.specs.Store.{Store, keep, put, Effect, stored, storeAddress, storeValue, storeOf}
+use Rattle.cpu.specs.Store.{Store, keep, put, stored, storeValue, storeOf}
 use Rattle.cpu.specs.Execute.{executeOf}
 use Rattle.cpu.specs.Step.{Action, refuse, granted, interrupted, executed, effectAt, actionOf, stepOf}
 use Rattle.cpu.specs.Laws.{Sound, StaysSound}

@@ -1,8 +1,7 @@
 -- What holds of every step. Each law is stated here and proved in `proofs/Laws`.
 use Prim.Native.Nat.{ℕ, _%_, _<_, _≤_}
 use mathlib.Core.Path.{_≡_}
-use mathlib.Core.Logic.{_⊎_}
-use mathlib.Core.Bool.{Bool, not}
+use mathlib.Core.Bool.{not}
 use mathlib.Core.List.{List}
 use lib.Dec.{ltb}
 use lib.ListN.{length, getD}
@@ -16,9 +15,9 @@ use Rattle.cpu.specs.declared.operate.Fetched.{Fetched}
 use Rattle.cpu.specs.Change.{statusAfter}
 use Rattle.cpu.specs.Operate.{sourceOf, destinationOf, operateOf}
 use Rattle.cpu.specs.Branch.{takenOf}
-use Rattle.cpu.specs.Store.{Store, put, stored}
-use Rattle.cpu.specs.Answer.{Reported, refused, answered}
-use Rattle.cpu.specs.Step.{Outcome, actionOf, stepOf}
+use Rattle.cpu.specs.Store.{put}
+use Rattle.cpu.specs.Answer.{refused, answered}
+use Rattle.cpu.specs.Step.{actionOf, stepOf}
 
 -- "A refusal hands back its number, no other result, and no lent word or byte altered."
 abbrev pub RefusedKeepsAll : Type 0

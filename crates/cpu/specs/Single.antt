@@ -1,6 +1,6 @@
 -- Document 01, "Flags" and "Shifts": the rows of one register, 008 to 07F. f is the register's word with the old flags.
 use Prim.Native.Nat.{ℕ, _%_}
-use mathlib.Core.Bool.{Bool, cond}
+use mathlib.Core.Bool.{cond}
 use mathlib.Core.List.{List}
 use lib.Dec.{eqb, leb, ltb}
 use Rattle.word.specs.declared.Flagged.{Flagged}

@@ -1,6 +1,6 @@
 -- Document 01, "Memory rows": MVO. An effect names at most one store, and `stored` makes it.
 use Prim.Native.Nat.{ℕ}
-use mathlib.Core.Bool.{Bool, cond, _&&_}
+use mathlib.Core.Bool.{cond, _&&_}
 use mathlib.Core.List.{List}
 use lib.Dec.{eqb, leb, ltb}
 use Rattle.word.specs.Word.{wrapAdd}

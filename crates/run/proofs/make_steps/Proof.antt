@@ -1,10 +1,10 @@
 -- `make_steps`: the rest of the loop is the whole of it.
 use Prim.Native.Nat.{_-_}
-use mathlib.Core.Path.{_≡_, refl, ap, _∙_}
+use mathlib.Core.Path.{refl}
 use native.Mathlib.Omega.{arith}
 use borrow.Author.Needs.{needs}
 use Rattle.cpu.specs.Step.{outcome}
-use Rattle.run.specs.inner.Loop.{loopEnd, loopOf}
+use Rattle.run.specs.inner.Loop.{loopOf}
 use Rattle.run.proofs.LoopLaws.{Looping, loop-spent, loop-refused, loop-on}
 use Rattle.run.proofs.make_steps.Statement.{statement}
 use Rattle.run.proofs.make_steps.Tie as tie
