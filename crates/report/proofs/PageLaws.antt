@@ -1,15 +1,34 @@
 -- Pieces put one behind the other are one piece.
-use Prim.Native.Nat.{ℕ, _+_, _≤_}
+use Prim.Native.Nat.{ℕ, _+_, _<_, _≤_}
 use mathlib.Core.Path.{_≡_, refl, sym, ap, _∙_}
 use mathlib.Core.List.{List, [], _∷_, _++_, append-assoc, append-nil}
 use native.Mathlib.Omega.{arith}
-use lib.ListN.{length, length-append}
-use lib.Seq.{length-sets, sets-eq, length-take-le}
+use native.Mathlib.Numerals.{add-one}
+use lib.ListN.{length, getD, take, set, length-take, length-append}
+use lib.Seq.{take-suc, sets, length-sets, sets-eq, length-take-le}
 use Rattle.image.proofs.ByteLaws.{sets-split}
 use Rattle.report.specs.declared.page.Page.{Page}
 use Rattle.report.specs.Text.{lineText, linesText}
 use Rattle.report.specs.Report.{printing, printed, Within}
 use Rattle.report.specs.Page.{Puts, Adds}
+
+-- The first i bytes of a piece, laid from a place of the room on.
+pub record Laying (room : List ℕ) (at : ℕ) (bytes after : List ℕ) (i : ℕ) : Type 0 where
+  pub within : i ≤ length bytes
+  pub laid : after ≡ sets room at (take i bytes)
+
+pub laying : (room : List ℕ) (at : ℕ) (bytes : List ℕ) → Laying room at bytes room 0
+laying room at bytes = record { within = omega arith; laid = refl }
+
+pub laying-length : {room bytes after : List ℕ} {at i : ℕ} → Laying room at bytes after i → length after ≡ length room
+laying-length {room} {bytes} {after} {at} {i} k = ap length (k .laid) ∙ length-sets room at (take i bytes)
+
+pub laying-on : {room bytes after : List ℕ} {at i b : ℕ} → Laying room at bytes after i → i < length bytes → b ≡ getD bytes i 0
+    → Laying room at bytes (set after (at + i) b) (i + 1)
+laying-on {room} {bytes} {after} {at} {i} {b} k h e =
+    let t = length-take i bytes in
+    let n : length (take i bytes) ≡ i = omega arith in
+    record { within = omega arith; laid = rw (add-one, take-suc bytes i 0, sets-split room at (take i bytes) (getD bytes i 0 ∷ []), n, k .laid, e) }
 
 pub puts-none : (room : List ℕ) (at : ℕ) → at ≤ length room → Puts room at [] room at
 puts-none room at h = record { within = omega arith; place = omega arith; room = refl }

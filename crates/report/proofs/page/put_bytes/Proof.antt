@@ -1,10 +1,10 @@
--- The loop lays the first i bytes, by the record `Laying` of the image files' loops.
+-- The loop lays the first i bytes, by the record `Laying`.
 use Prim.Native.Nat.{_-_}
 use mathlib.Core.Path.{_≡_, refl, _∙_}
 use native.Mathlib.Omega.{arith}
 use lib.ListN.{length}
 use lib.Seq.{take-length}
-use Rattle.image.proofs.PassLaws.{Laying, laying, laying-length, laying-on}
+use Rattle.report.proofs.PageLaws.{Laying, laying, laying-length, laying-on}
 use Rattle.report.proofs.page.put_bytes.Statement.{statement}
 use Rattle.report.proofs.page.put_bytes.Tie as tie
 
