@@ -4,15 +4,30 @@ use mathlib.Core.Path.{_≡_, refl, sym}
 use mathlib.Core.List.{List, [], _∷_}
 use native.Mathlib.Nat.{le-of-suc-le-suc}
 use native.Mathlib.Omega.{arith}
+use lib.Dec.{lit<}
 use lib.ListN.{length, getD, set, length-set}
 use lib.Seq.{getD-set-same, getD-set-other, set-out}
-use Rattle.memory.specs.Memory.{peekOf, pokeOf, Words, PokeLaws}
+use Rattle.memory.specs.Memory.{peekOf, pokeOf}
+use Rattle.memory.specs.Laws.{Words, PokeLaws}
 
 -- within a list the default is not used
 pub getD-within : (l : List ℕ) (i d e : ℕ) → i < length l → getD l i d ≡ getD l i e
 getD-within [] i d e h = absurd (omega arith)
 getD-within (x ∷ l) zero d e h = refl
 getD-within (x ∷ l) (suc i) d e h = getD-within l i d e (le-of-suc-le-suc h)
+
+-- words of 16 bits, whatever a read past their end gives
+pub fits-words : (m : List ℕ) → ((a : ℕ) → getD m a 0 < 65536) → Words m
+unfolding peekOf
+fits-words [] h a = lit< tt
+fits-words (w ∷ m) h zero = h zero
+fits-words (w ∷ m) h (suc a) = fits-words m (λ b. h (suc b)) a
+
+pub words-fit : (m : List ℕ) → Words m → (a : ℕ) → getD m a 0 < 65536
+unfolding peekOf
+words-fit [] h a = lit< tt
+words-fit (w ∷ m) h zero = h zero
+words-fit (w ∷ m) h (suc a) = words-fit m (λ b. h (suc b)) a
 
 peek-same : (m : List ℕ) (a w : ℕ) → a < length m → peekOf (pokeOf m a w) a ≡ w
 unfolding peekOf pokeOf

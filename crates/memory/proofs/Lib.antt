@@ -1,2 +1,3 @@
 -- Laws of the memory.
 pub mod Laws
+pub mod BusLaws

@@ -1,2 +1,3 @@
--- Laws of the refusals.
+-- Laws of the refusals and of reports.
 pub mod Laws
+pub mod ReportLaws

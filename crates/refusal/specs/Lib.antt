@@ -1,2 +1,3 @@
--- What the refusals promise.
+-- What the refusals promise, and the report that every call answers by.
 pub mod Refusals
+pub mod Report

@@ -1,6 +1,6 @@
 -- Document 01, "Refusal numbers": the number of each refusal.
 use Prim.Native.Nat.{ℕ, _<_}
-use mathlib.Core.Path.{_≡_}
+use Rattle.refusal.specs.Report.{OneToOne}
 use Rattle.refusal.specs.declared.Refusal.{Refusal}
 use Rattle.refusal.specs.declared.Refusal.the-variants.{
   MemoryTooLong,
@@ -48,8 +48,9 @@ refusalNumber ImageRoomTooSmall = 13
 
 -- no two refusals share a number
 abbrev pub NumbersApart : Type 0
-NumbersApart = (a b : Refusal) → refusalNumber a ≡ refusalNumber b → a ≡ b
+NumbersApart = OneToOne refusalNumber
 
--- every number lies below 255, which is free for callers: the C interface answers it for a short buffer
+-- every number has at most two decimal digits, as the programs print it, and lies below 255, which is free for callers: the C interface
+-- answers that for a short buffer
 abbrev pub NumbersLow : Type 0
-NumbersLow = (r : Refusal) → refusalNumber r < 255
+NumbersLow = (r : Refusal) → refusalNumber r < 100
