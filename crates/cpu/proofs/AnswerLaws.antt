@@ -2,35 +2,31 @@
 use Prim.Native.Nat.{ℕ}
 use mathlib.Core.Path.{_≡_, ap, sym}
 use native.Mathlib.Omega.{arith}
-use Rattle.refusal.specs.Refusals.{refusalNumber}
-use Rattle.refusal.proofs.Laws.{numbers-apart}
-use Rattle.cpu.specs.declared.StepAnswer.{StepAnswer}
+use Rattle.refusal.proofs.ReportLaws.{no-answer, same-answer, same-refusal}
 use Rattle.cpu.specs.declared.StepAnswer.the-variants.{Refused, Granted, Interrupted, Executed}
-use Rattle.cpu.specs.Answer.{refused, answered, AnswersApart}
+use Rattle.cpu.specs.Answer.{StepDone, done, StepsApart}
 
--- two kinds whose numbers differ
-kinds : {A : Type 0} (a b : ℕ) {n m : ℕ} → (a ≡ b → ⊥) → answered a n ≡ answered b m → A
-kinds a b h e = let z : a ≡ b = cc in absurd (h z)
+-- two kinds whose numbers differ, and two answers of one kind
+kinds : {A : Type 0} (a b : ℕ) {n m : ℕ} → (a ≡ b → ⊥) → done a n ≡ done b m → A
+kinds a b h e = absurd (h (ap (λ (x : StepDone). x .kind) (same-answer e)))
 
--- a refusal and a kind
-mixed : {A : Type 0} {n a b : ℕ} → refused n ≡ answered a b → A
-mixed e = let z : _≡_ {A = ℕ} 0 1 = cc in absurd (omega arith)
+same-cycles : {a n m : ℕ} → done a n ≡ done a m → n ≡ m
+same-cycles e = ap (λ (x : StepDone). x .cycles) (same-answer e)
 
-pub answers-apart : AnswersApart
-answers-apart (Refused a) (Refused b) e =
-    let n : refusalNumber a ≡ refusalNumber b = cc in ap Refused (numbers-apart a b n)
-answers-apart (Refused a) (Granted b) e = mixed e
-answers-apart (Refused a) (Interrupted b) e = mixed e
-answers-apart (Refused a) (Executed b) e = mixed e
-answers-apart (Granted a) (Refused b) e = mixed (sym e)
-answers-apart (Granted a) (Granted b) e = cc
-answers-apart (Granted a) (Interrupted b) e = kinds 3 4 (λ z. omega arith) e
-answers-apart (Granted a) (Executed b) e = kinds 3 5 (λ z. omega arith) e
-answers-apart (Interrupted a) (Refused b) e = mixed (sym e)
-answers-apart (Interrupted a) (Granted b) e = kinds 4 3 (λ z. omega arith) e
-answers-apart (Interrupted a) (Interrupted b) e = cc
-answers-apart (Interrupted a) (Executed b) e = kinds 4 5 (λ z. omega arith) e
-answers-apart (Executed a) (Refused b) e = mixed (sym e)
-answers-apart (Executed a) (Granted b) e = kinds 5 3 (λ z. omega arith) e
-answers-apart (Executed a) (Interrupted b) e = kinds 5 4 (λ z. omega arith) e
-answers-apart (Executed a) (Executed b) e = cc
+pub steps-apart : StepsApart
+steps-apart (Refused a) (Refused b) e = ap Refused (same-refusal a b e)
+steps-apart (Refused a) (Granted b) e = no-answer e
+steps-apart (Refused a) (Interrupted b) e = no-answer e
+steps-apart (Refused a) (Executed b) e = no-answer e
+steps-apart (Granted a) (Refused b) e = no-answer (sym e)
+steps-apart (Granted a) (Granted b) e = ap Granted (same-cycles e)
+steps-apart (Granted a) (Interrupted b) e = kinds 3 4 (λ z. omega arith) e
+steps-apart (Granted a) (Executed b) e = kinds 3 5 (λ z. omega arith) e
+steps-apart (Interrupted a) (Refused b) e = no-answer (sym e)
+steps-apart (Interrupted a) (Granted b) e = kinds 4 3 (λ z. omega arith) e
+steps-apart (Interrupted a) (Interrupted b) e = ap Interrupted (same-cycles e)
+steps-apart (Interrupted a) (Executed b) e = kinds 4 5 (λ z. omega arith) e
+steps-apart (Executed a) (Refused b) e = no-answer (sym e)
+steps-apart (Executed a) (Granted b) e = kinds 5 3 (λ z. omega arith) e
+steps-apart (Executed a) (Interrupted b) e = kinds 5 4 (λ z. omega arith) e
+steps-apart (Executed a) (Executed b) e = ap Executed (same-cycles e)

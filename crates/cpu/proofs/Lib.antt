@@ -1,7 +1,13 @@
--- Laws of the step and of its rows.
-pub mod StepLaws
-pub mod RowLaws
-pub mod Laws
-pub mod SoundLaws
+-- What is proved of the processor. `ActionLaws` has the ways that a step can go, and the laws that follow from them.
 pub mod AnswerLaws
-pub mod CompareLaws
+pub mod ActionLaws
+pub mod RowMarks
+pub mod SoundLaws
+pub mod BranchLaws
+pub mod LocalLaws
+pub mod RegisterLaws
+pub mod RowAnswers
+pub mod PlanLaws
+pub mod CodeLaws
+pub mod OperateLaws
+pub mod StoreLaws

@@ -1,41 +1,71 @@
--- What holds of every step. Each law is stated here and proved in `proofs/Laws`.
+-- What holds of every step, on every machine, bus and lines unless premises are named.
 use Prim.Native.Nat.{ℕ, _%_, _<_, _≤_}
 use mathlib.Core.Path.{_≡_}
-use mathlib.Core.Bool.{not}
+use mathlib.Core.Bool.{Bool, false, not, cond}
 use mathlib.Core.List.{List}
 use lib.Dec.{ltb}
-use lib.ListN.{length, getD}
-use Rattle.word.specs.Word.{signed}
-use Rattle.memory.specs.Memory.{peekOf, Words}
+use lib.ListN.{length}
+use Rattle.refusal.specs.Report.{refused, answered}
+use Rattle.word.specs.Word.{wrapAdd, signed}
+use Rattle.memory.specs.declared.Admission.the-variants.{Admitted}
+use Rattle.memory.specs.Bus.{Bus, busOf, readOf, put, admissionOf}
+use Rattle.memory.specs.Laws.{AgreeAt, BusWords}
+use Rattle.decode.specs.declared.Instr.{Instr}
+use Rattle.decode.specs.declared.Instr.the-variants.{Register, Branch, Read}
+use Rattle.decode.specs.declared.Decoded.the-variants.{Known}
 use Rattle.decode.specs.declared.rows.Row.{Row}
-use Rattle.cpu.specs.declared.Status.{Status}
-use Rattle.cpu.specs.declared.State.{State}
+use Rattle.decode.specs.Fields.{modeOf, branchTarget}
+use Rattle.decode.specs.Rows.{rowOf}
+use Rattle.decode.specs.Reads.{decodingReads}
+use Rattle.decode.specs.Laws.{Begins}
 use Rattle.cpu.specs.declared.Lines.{Lines}
-use Rattle.cpu.specs.declared.operate.Fetched.{Fetched}
-use Rattle.cpu.specs.Change.{statusAfter}
-use Rattle.cpu.specs.Operate.{sourceOf, destinationOf, operateOf}
-use Rattle.cpu.specs.Branch.{takenOf}
-use Rattle.cpu.specs.Store.{put}
-use Rattle.cpu.specs.Answer.{refused, answered}
-use Rattle.cpu.specs.Step.{actionOf, stepOf}
+use Rattle.cpu.specs.declared.Plan.the-variants.{Executing}
+use Rattle.cpu.specs.Machine.{Machine, register}
+use Rattle.cpu.specs.Answer.{StepDone, done}
+use Rattle.cpu.specs.Branch.{isTaken}
+use Rattle.cpu.specs.Modes.{Fetch, fetchOf}
+use Rattle.cpu.specs.Execute.{begun}
+use Rattle.cpu.specs.Step.{noted, planOf, decoded, executionWords, executed, actionOf, Outcome, stepOf, stepReads}
 
 -- "A refusal hands back its number, no other result, and no lent word or byte altered."
 abbrev pub RefusedKeepsAll : Type 0
 RefusedKeepsAll =
-    (st : State) (m : List ℕ) (l : Lines) (n : ℕ) →
-    stepOf st m l .answer ≡ refused n →
-    (stepOf st m l .state ≡ st) × (stepOf st m l .memory ≡ m)
+    (m : Machine) (b : Bus) (l : Lines) (n : ℕ) →
+    stepOf m b l .answer ≡ refused n →
+    (stepOf m b l .machine ≡ m) × (stepOf m b l .bus ≡ b)
 
--- a step keeps the memory's length
+-- who is let in before a step is let in after it
+abbrev pub KeepsAdmission : Type 0
+KeepsAdmission = (m : Machine) (b : Bus) (l : Lines) → admissionOf (stepOf m b l .bus) ≡ admissionOf b
+
+-- a step on lent words leaves as many
 abbrev pub KeepsLength : Type 0
-KeepsLength = (st : State) (m : List ℕ) (l : Lines) → length (stepOf st m l .memory) ≡ length m
+KeepsLength =
+    (m : Machine) (before after : List ℕ) (l : Lines) →
+    stepOf m (busOf before) l .bus ≡ busOf after →
+    length after ≡ length before
 
 -- a step changes at most one word: the one that its action names
 abbrev pub ChangesOneWord : Type 0
 ChangesOneWord =
-    (st : State) (m : List ℕ) (l : Lines) (a : ℕ) →
-    ((w : ℕ) → actionOf st m l .store ≡ put a w → ⊥) →
-    peekOf (stepOf st m l .memory) a ≡ peekOf m a
+    (m : Machine) (b : Bus) (l : Lines) (a : ℕ) →
+    ((w : ℕ) → actionOf m b l .store ≡ put a w → ⊥) →
+    readOf (stepOf m b l .bus) a ≡ readOf b a
+
+-- buses that agree on what a step reads, and let in alike, give the same action: machine, answer and store
+abbrev pub StepIsLocal : Type 0
+StepIsLocal =
+    (m : Machine) (b c : Bus) (l : Lines) →
+    admissionOf b ≡ admissionOf c →
+    AgreeAt (stepReads m b l) b c →
+    actionOf m b l ≡ actionOf m c l
+
+-- an executing step reads first what decoding reads: these are the words that demand 3's walk reads at the instruction
+abbrev pub DecodesFirst : Type 0
+DecodesFirst =
+    (m : Machine) (b : Bus) (l : Lines) →
+    planOf (noted m l) l ≡ Executing →
+    Begins (decodingReads (readOf b) (register 7 m)) (stepReads m b l)
 
 -- "the bus is granted, 1 cycle"; an interrupt "12 cycles"; an instruction 4 to 12
 pub record Costs (kind cycles : ℕ) : Type 0 where
@@ -45,35 +75,81 @@ pub record Costs (kind cycles : ℕ) : Type 0 where
   pub kinds : (3 ≤ kind) × (kind ≤ 5)
 
 abbrev pub EveryCost : Type 0
-EveryCost =
-    (st : State) (m : List ℕ) (l : Lines) (kind cycles : ℕ) →
-    stepOf st m l .answer ≡ answered kind cycles →
-    Costs kind cycles
+EveryCost = (m : Machine) (b : Bus) (l : Lines) (x : StepDone) → stepOf m b l .answer ≡ answered x → Costs (x .kind) (x .cycles)
+
+-- eight registers, each a 16-bit word: so it is of each `State`, by its type (`are_sound` of src/types)
+pub record Sound (m : Machine) : Type 0 where
+  pub eight : length (m .registers) ≡ 8
+  pub words : (n : ℕ) → register n m < 65536
+
+-- the step goes by item 5, and makes this instruction
+pub record Executes (m : Machine) (b : Bus) (l : Lines) (i : Instr) : Type 0 where
+  pub admitted : admissionOf b ≡ Admitted
+  pub plan : planOf (noted m l) l ≡ Executing
+  pub instruction : decoded m b ≡ Known i
+
+-- a branch from this machine and bus left this: "9 taken, 7 not", and R7 is the target or the address after its words
+pub record Branches (m : Machine) (b : Bus) (branch : ℕ) (taken : Bool) (left : Outcome) : Type 0 where
+  pub costs : left .answer ≡ done 5 (cond taken 9 7)
+  pub goes :
+      register 7 (left .machine)
+      ≡ cond taken (branchTarget (register 7 m) branch (readOf b (wrapAdd (register 7 m) 1))) (wrapAdd (register 7 m) 2)
+
+abbrev pub NineTakenSevenNot : Type 0
+NineTakenSevenNot =
+    (m : Machine) (b : Bus) (l : Lines) (branch : ℕ) →
+    Executes m b l (Branch branch) →
+    Branches m b branch (isTaken (m .flags) (l .external) branch) (stepOf m b l)
 
 -- "After a compare, BLT is taken exactly if d is below the operand as signed numbers; BC exactly if d is not below it unsigned."
--- A compare is an operate of row 5: CMPR or CMP. g is its operand, x the destination operand. b is bits 5 to 0 of the branch: bits 4 to 0 are
--- 5 of BLT, forward and backward, and 1 of BC.
-abbrev pub AfterCompare : Type 0
-AfterCompare =
-    (r : List ℕ) (k : Status) (read : ℕ → ℕ) (pc next row s d external b : ℕ) (entry : Row) →
-    row % 8 ≡ 5 →
-    let g : Fetched = sourceOf r read pc next (k .d) row s in
-    let x : ℕ = destinationOf r next g d in
-    let after : Status = statusAfter k entry (operateOf r k read pc next row s d) in
-    x < 65536 →
-    g .value < 65536 →
-    (b % 32 ≡ 5 → takenOf after external b ≡ ltb (signed x) (signed (g .value)))
-    × (b % 32 ≡ 1 → takenOf after external b ≡ not (ltb x (g .value)))
+-- Bits 4 to 0 of BLT are 5, forward and backward, and 1 of BC. x is d and y the operand; `next` are the lines of the step after.
+abbrev pub OrderTells : Machine → Bus → Lines → Lines → ℕ → ℕ → Type 0
+OrderTells m b l next x y =
+    let left : Outcome = stepOf m b l in
+    (branch : ℕ) →
+    Executes (left .machine) (left .bus) next (Branch branch) →
+    let tells : Bool → Type 0 = λ taken. Branches (left .machine) (left .bus) branch taken (stepOf (left .machine) (left .bus) next) in
+    (branch % 32 ≡ 5 → tells (ltb (signed x) (signed y))) × (branch % 32 ≡ 1 → tells (not (ltb x y)))
 
--- eight registers, each a 16-bit word: so it is of each `State`, by its type
-pub record Sound (st : State) : Type 0 where
-  pub eight : length (st .registers) ≡ 8
-  pub words : (i : ℕ) → getD (st .registers) i 0 < 65536
+-- CMPR: both operands are registers, and "R7 as operand is the address after the instruction's words"
+abbrev pub AfterCmpr : Type 0
+AfterCmpr =
+    (m : Machine) (b : Bus) (l next : Lines) (s d : ℕ) →
+    Sound m →
+    BusWords b →
+    Executes m b l (Register 5 s d) →
+    let k : Machine = begun (rowOf (Register 5 s d) (m .switches .d)) (noted m l) in
+    OrderTells m b l next (register d k) (register s k)
 
--- a state with eight registers below 65,536 steps to one, and a memory of 16-bit words to one
+-- CMP: "moves the pointer first and takes the destination operand after"
+abbrev pub AfterCmp : Type 0
+AfterCmp =
+    (m : Machine) (b : Bus) (l next : Lines) (s d : ℕ) →
+    Sound m →
+    BusWords b →
+    Executes m b l (Read 13 s d) →
+    let k : Machine = begun (rowOf (Read 13 s d) (m .switches .d)) (noted m l) in
+    let f : Fetch = fetchOf (modeOf s) (m .switches .d) (register 7 m) k in
+    OrderTells m b l next (register d (f .after)) (f .operand (executionWords (noted m l) b (Read 13 s d)))
+
+-- what an instruction leaves beside its result is its row's: D, ready, halted; and one that is not interruptible goes on in line
+pub record ByItsRow (row : Row) (m after : Machine) : Type 0 where
+  pub double : after .switches .d ≡ row .double
+  pub ready : after .running .ready ≡ row .interruptible
+  pub halted : m .running .halted ≡ false → after .running .halted ≡ row .halts
+  pub in-line : row .interruptible ≡ false → register 7 after ≡ wrapAdd (register 7 m) (row .words)
+
+abbrev pub GoesByItsRow : Type 0
+GoesByItsRow =
+    (i : Instr) (m : Machine) (b : Bus) (l : Lines) → ByItsRow (rowOf i (m .switches .d)) m (executed m b l i .machine)
+
+-- a step keeps eight registers
+abbrev pub KeepsEight : Type 0
+KeepsEight = (m : Machine) (b : Bus) (l : Lines) → length (m .registers) ≡ 8 → length (stepOf m b l .machine .registers) ≡ 8
+
 abbrev pub StaysSound : Type 0
 StaysSound =
-    (st : State) (m : List ℕ) (l : Lines) →
-    Sound st →
-    Words m →
-    Sound (stepOf st m l .state) × Words (stepOf st m l .memory)
+    (m : Machine) (b : Bus) (l : Lines) →
+    Sound m →
+    BusWords b →
+    Sound (stepOf m b l .machine) × BusWords (stepOf m b l .bus)

@@ -1,110 +1,49 @@
--- Document 01, "Memory rows", "D" and "Flags": the register operates and the reads. The memory is a reader.
-use Prim.Native.Nat.{ℕ, _+_, _*_, _%_}
-use mathlib.Core.Bool.{Bool, cond}
-use mathlib.Core.List.{List}
+-- Document 01, "Flags": what the register rows 080 to 1FF and the reads 280 to 3FF do with their operand y.
+use Prim.Native.Nat.{ℕ}
+use mathlib.Core.List.{List, [], _∷_}
 use lib.Bits.{bitAnd, bitXor}
-use lib.Dec.{eqb, ltb}
-use Rattle.word.specs.declared.Flagged.{Flagged}
-use Rattle.word.specs.Word.{wrapAdd, wrapSub}
-use Rattle.word.specs.Flags.{setSZ, addOf, subtractOf, compareOf}
-use Rattle.cpu.specs.declared.Status.{Status}
-use Rattle.cpu.specs.declared.change.Change.{Change}
-use Rattle.cpu.specs.declared.operate.Fetched.{Fetched}
-use Rattle.cpu.specs.State.{registerOf, operandOf}
-use Rattle.cpu.specs.Change.{noRegister, heldOf}
+use lib.ListN.{getD}
+use Rattle.word.specs.Flags.{addOf, subtractOf}
+use Rattle.cpu.specs.Machine.{Machine, register, setRegister, setFlags, flagsOf, withSZ, result}
 
--- "the low bytes of two successive words, low half first"
-unfoldable pub joinOf : ℕ → ℕ → ℕ
-joinOf low high = low % 256 + high % 256 * 256
+-- MOVR: "MOVR, logic, INCR, DECR, COMR set S Z only."
+unfoldable pub movr : ℕ → ℕ → Machine → Machine
+movr d y m = result d (withSZ y (m .flags)) m
 
--- an operand whose pointer does not move
-unfoldable pub plainOf : ℕ → Fetched
-plainOf v = record { value = v; pointer = noRegister; moved = 0 }
+-- MVI: "MVI, MVO, GSWD set none."
+unfoldable pub mvi : ℕ → ℕ → Machine → Machine
+mvi d y m = setRegister d y m
 
--- "1 to 5 through that register"; under D "s = 1, 2, 3 read one word and use its low byte for both halves"
-unfoldable pub throughOf : (ℕ → ℕ) → ℕ → Bool → ℕ
-throughOf read a double = cond double (joinOf (read a) (read a)) (read a)
+-- ADDR, ADD
+unfoldable pub add : ℕ → ℕ → Machine → Machine
+add d y m = result d (addOf (register d m) y) m
 
--- "R4, R5, R7 move up after use."; under D "two successive words, low half first, pointer moved twice"
-unfoldable pub autoOf : (ℕ → ℕ) → ℕ → ℕ → Bool → Fetched
-autoOf read s a double =
-    cond double
-    (record { value = joinOf (read a) (read (wrapAdd a 1)); pointer = s; moved = wrapAdd a 2 })
-    (record { value = read a; pointer = s; moved = wrapAdd a 1 })
+-- SUBR, SUB: "Subtract and compare take d minus operand"
+unfoldable pub sub : ℕ → ℕ → Machine → Machine
+sub d y m = result d (subtractOf (register d m) y) m
 
--- "a read first takes R6 - 1"
-unfoldable pub stackOf : (ℕ → ℕ) → ℕ → Fetched
-stackOf read top = record { value = read (wrapSub top 1); pointer = 6; moved = wrapSub top 1 }
+-- CMPR, CMP: the flags of the difference, and d stays
+unfoldable pub cmp : ℕ → ℕ → Machine → Machine
+cmp d y m = setFlags (flagsOf (subtractOf (register d m) y)) m
 
--- "7 immediate"; R7 is past the operand words already
-unfoldable pub immediateOf : (ℕ → ℕ) → ℕ → Bool → ℕ
-immediateOf read pc double =
-    cond double (joinOf (read (wrapAdd pc 1)) (read (wrapAdd pc 2))) (read (wrapAdd pc 1))
+-- ANDR, AND
+unfoldable pub and : ℕ → ℕ → Machine → Machine
+and d y m = result d (withSZ (bitAnd (register d m) y) (m .flags)) m
 
--- the operand of a read by s; "s = 0 direct (address in the next word)", a whole word under D too
-unfoldable pub fetchOf : List ℕ → (ℕ → ℕ) → ℕ → Bool → ℕ → Fetched
-fetchOf r read pc double s =
-    cond (eqb s 0) (plainOf (read (read (wrapAdd pc 1))))
-    (cond (ltb s 4) (plainOf (throughOf read (registerOf r s) double))
-    (cond (eqb s 6) (stackOf read (registerOf r s))
-    (cond (eqb s 7) (plainOf (immediateOf read pc double)) (autoOf read s (registerOf r s) double))))
+-- XORR, XOR
+unfoldable pub xor : ℕ → ℕ → Machine → Machine
+xor d y m = result d (withSZ (bitXor (register d m) y) (m .flags)) m
 
--- 080-1FF take a register, 280-3FF read
-unfoldable pub sourceOf : List ℕ → (ℕ → ℕ) → ℕ → ℕ → Bool → ℕ → ℕ → Fetched
-sourceOf r read pc next double row s = cond (ltb row 8) (plainOf (operandOf r next s)) (fetchOf r read pc double s)
+-- "080 0C0 100 140 180 1C0, 64 each: MOVR ADDR SUBR CMPR ANDR XORR": by n from 0, y is register s
+abbrev pub registerRows : ℕ → ℕ → Machine → List Machine
+registerRows y d m = movr d y m ∷ add d y m ∷ sub d y m ∷ cmp d y m ∷ and d y m ∷ xor d y m ∷ []
 
--- "A read moves the pointer first and takes the destination operand after."
-unfoldable pub destinationOf : List ℕ → ℕ → Fetched → ℕ → ℕ
-destinationOf r next g d = cond (eqb d (g .pointer)) (g .moved) (operandOf r next d)
+abbrev pub registerRow : ℕ → ℕ → ℕ → Machine → Machine
+registerRow n y d m = getD (registerRows y d m) n m
 
--- the rows' results, where f is the destination operand with the old flags and y the operand
--- "MOVR, logic, .. set S Z only."
-abbrev pub movrOf : Flagged → ℕ → Flagged
-movrOf f y = setSZ y f
+-- "280 2C0 300 340 380 3C0, 64 each: MVI ADD SUB CMP AND XOR": by n from 0, y is the operand read, and the pointer has moved
+abbrev pub readRows : ℕ → ℕ → Machine → List Machine
+readRows y d m = mvi d y m ∷ add d y m ∷ sub d y m ∷ cmp d y m ∷ and d y m ∷ xor d y m ∷ []
 
--- "MVI, MVO, GSWD set none."
-abbrev pub mviOf : Flagged → ℕ → Flagged
-mviOf f y = record { value = y; s = f .s; z = f .z; o = f .o; c = f .c }
-
-abbrev pub andOf : Flagged → ℕ → Flagged
-andOf f y = setSZ (bitAnd (f .value) y) f
-
-abbrev pub xorOf : Flagged → ℕ → Flagged
-xorOf f y = setSZ (bitXor (f .value) y) f
-
--- the first row of each six: from a register MOVR, from memory MVI
-unfoldable pub transferOf : ℕ → Flagged → ℕ → Flagged
-transferOf row f y = cond (ltb row 8) (movrOf f y) (mviOf f y)
-
--- "080 0C0 100 140 180 1C0: MOVR ADDR SUBR CMPR ANDR XORR"; "280 2C0 300 340 380 3C0: MVI ADD SUB CMP AND XOR"
-unfoldable pub operationOf : ℕ → Flagged → ℕ → Flagged
-operationOf row f y =
-    cond (eqb (row % 8) 2) (transferOf row f y)
-    (cond (eqb (row % 8) 3) (addOf (f .value) y)
-    (cond (eqb (row % 8) 4) (subtractOf (f .value) y)
-    (cond (eqb (row % 8) 5) (compareOf (f .value) y) (cond (eqb (row % 8) 6) (andOf f y) (xorOf f y)))))
-
--- the destination with the result of the operation, its pointer moved
-abbrev pub operated : ℕ → Fetched → ℕ → Flagged → Bool → Change
-operated next g d f i =
-    record {
-      destination = d;
-      value = f .value;
-      pointer = g .pointer;
-      moved = g .moved;
-      next = next;
-      saved = 0;
-      s = f .s;
-      z = f .z;
-      o = f .o;
-      c = f .c;
-      i = i;
-    }
-
--- the operand first, then the destination operand, then the operation
-abbrev pub operateWith : List ℕ → Status → ℕ → ℕ → ℕ → Fetched → Change
-operateWith r k next row d g =
-    operated next g d (operationOf row (heldOf k (destinationOf r next g d)) (g .value)) (k .i)
-
-unfoldable pub operateOf : List ℕ → Status → (ℕ → ℕ) → ℕ → ℕ → ℕ → ℕ → ℕ → Change
-operateOf r k read pc next row s d = operateWith r k next row d (sourceOf r read pc next (k .d) row s)
+abbrev pub readRow : ℕ → ℕ → ℕ → Machine → Machine
+readRow n y d m = getD (readRows y d m) n m

@@ -1,113 +1,140 @@
 -- One step: document 01, "The board the step sees", its order 1 to 5.
-use Prim.Native.Nat.{ℕ, _-_}
-use mathlib.Core.Bool.{not, cond, _&&_}
-use mathlib.Core.List.{List}
-use lib.ListN.{getD}
+use mathlib.Core.Bool.{false, not, cond, _&&_}
+use mathlib.Core.List.{List, [], _++_, map}
+use Prim.Native.Nat.{ℕ}
 use Rattle.refusal.specs.declared.Refusal.{Refusal}
-use Rattle.refusal.specs.declared.Refusal.the-variants.{MemoryTooLong, Halted, Unspecified as UnspecifiedForm}
+use Rattle.refusal.specs.declared.Refusal.the-variants.{Halted, Unspecified as UnspecifiedForm}
 use Rattle.refusal.specs.Refusals.{refusalNumber}
+use Rattle.refusal.specs.Report.{Report, refused}
 use Rattle.word.specs.Word.{wrapAdd}
-use Rattle.memory.specs.Memory.{peekOf, tooLong}
+use Rattle.memory.specs.Bus.{Bus, busOf, readOf, Store, keep, put, stored, admissionOf, unlessBarred}
 use Rattle.decode.specs.declared.Instr.{Instr}
 use Rattle.decode.specs.declared.Decoded.{Decoded}
 use Rattle.decode.specs.declared.Decoded.the-variants.{Unspecified, Known}
 use Rattle.decode.specs.declared.rows.Row.{Row}
 use Rattle.decode.specs.Decode.{decodeAt}
 use Rattle.decode.specs.Rows.{rowOf}
-use Rattle.cpu.specs.declared.Status.{Status}
-use Rattle.cpu.specs.declared.State.{State}
+use Rattle.decode.specs.Reads.{decodingReads}
 use Rattle.cpu.specs.declared.Lines.{Lines}
-use Rattle.cpu.specs.declared.StepAnswer.{StepAnswer}
+use Rattle.cpu.specs.declared.Plan.{Plan}
+use Rattle.cpu.specs.declared.Plan.the-variants.{Halting, Granting, Interrupting, Executing}
 use Rattle.cpu.specs.declared.Stepped.{Stepped}
-use Rattle.cpu.specs.declared.requests.Kind.{Kind}
-use Rattle.cpu.specs.declared.requests.Kind.the-variants.{Grant, Interrupt, Instruction}
-use Rattle.cpu.specs.State.{stateOf, notedOf, interruptedRegisters, interruptedStatus}
-use Rattle.cpu.specs.Change.{registersAfter, statusAfter}
-use Rattle.cpu.specs.Store.{Store, keep, put, Effect, stored}
-use Rattle.cpu.specs.Execute.{executeOf}
-use Rattle.cpu.specs.Answer.{Reported, refused, answered, reported}
+use Rattle.cpu.specs.Machine.{Machine, machineOf, register, setRegister, setSwitches, setRunning, setIntrm, seenBy}
+use Rattle.cpu.specs.Answer.{StepDone, done, stepReport}
+use Rattle.cpu.specs.Modes.{Effect}
+use Rattle.cpu.specs.Reads.{executionReads}
+use Rattle.cpu.specs.Execute.{begun, executeOf, instructionCycles}
 
--- what a step does: the state that it leaves, what it reports, and at most one store
+-- Item 2, for the whole machine
+unfoldable pub noted : Machine → Lines → Machine
+noted m l = setIntrm (seenBy (l .intrm) (m .intrm)) m
+
+-- "halted"; "ready and BUSRQ low"; "ready, I set and pending"; "else one instruction". m has the level and the mark recorded.
+unfoldable pub planOf : Machine → Lines → Plan
+planOf m l =
+    cond (m .running .halted) Halting
+    (cond (m .running .ready && not (l .busrq)) Granting
+    (cond (m .running .ready && (m .switches .i && m .intrm .mark)) Interrupting Executing))
+
+-- what a step does: the machine that it leaves, what it reports, and at most one store
 pub record Action : Type 0 where
-  pub state : State
-  pub answer : Reported
+  pub machine : Machine
+  pub answer : Report StepDone
   pub store : Store
 
--- a refusal hands back the given state, its INTRM level and mark too, and stores nothing
-unfoldable pub refuse : State → Refusal → Action
-refuse st r = record { state = st; answer = refused (refusalNumber r); store = keep }
+-- "A refused step also leaves the INTRM level and mark unrecorded."
+unfoldable pub refusedStep : Machine → Refusal → Action
+refusedStep m r = record { machine = m; answer = refused (refusalNumber r); store = keep }
 
--- Item 3: "the bus is granted, 1 cycle, nothing else changes"; k has the level and the mark recorded
-unfoldable pub granted : List ℕ → Status → Action
-granted r k = record { state = stateOf r k; answer = answered 3 1; store = keep }
+-- Item 3: "the bus is granted, 1 cycle, nothing else changes"
+unfoldable pub granted : Machine → Action
+granted m = record { machine = m; answer = done 3 1; store = keep }
 
 -- Item 4: "word at R6 := R7, R6 + 1, R7 := $1004, pending, ready and D clear, 12 cycles"
-unfoldable pub interrupted : List ℕ → Status → Action
-interrupted r k =
+unfoldable pub interrupted : Machine → Action
+interrupted m =
     record {
-      state = stateOf (interruptedRegisters r) (interruptedStatus k);
-      answer = answered 4 12;
-      store = put (getD r 6 0) (getD r 7 0);
+      machine =
+          setIntrm (record { level = m .intrm .level; mark = false })
+          (setRunning (m .running .halted) false
+          (setSwitches (m .switches .i) false
+          (setRegister 7 0x1004 (setRegister 6 (wrapAdd (register 6 m) 1) m))));
+      answer = done 4 12;
+      store = put (register 6 m) (register 7 m);
     }
 
--- Item 5: "one instruction. Ready is then its row's 'heard' mark."
-unfoldable pub executed : List ℕ → Status → Row → Effect → Action
-executed r k row e =
-    record {
-      state = stateOf (registersAfter r (e .change)) (statusAfter k row (e .change));
-      answer = answered 5 (row .cycles - e .change .saved);
-      store = e .store;
-    }
+-- the words that the execution of the instruction at R7 reads
+unfoldable pub executionWords : Machine → Bus → Instr → List ℕ
+executionWords m b i =
+    let row : Row = rowOf i (m .switches .d) in
+    map (readOf b) (executionReads i (m .switches .d) (readOf b) (register 7 m) (begun row m))
 
--- the effect of the instruction at R7, whose row is given
-unfoldable pub effectAt : List ℕ → Status → List ℕ → Lines → Instr → Row → Effect
-effectAt r k m l i row =
-    executeOf r k (peekOf m) (getD r 7 0) (wrapAdd (getD r 7 0) (row .words)) (l .external) i
+-- Item 5: one instruction, which comes by the memory through these words alone
+unfoldable pub executedFrom : Machine → List ℕ → Lines → Instr → Action
+executedFrom m words l i =
+    let row : Row = rowOf i (m .switches .d) in
+    let e : Effect = executeOf i (m .switches .d) words (register 7 m) (l .external) (begun row m) in
+    record { machine = e .machine; answer = done 5 (instructionCycles i row (l .external) m); store = e .store }
 
--- refusal 3: "step meets an unspecified form"; st is the state given, k its status with the level and the mark recorded
-abbrev pub instructionStep : State → Status → List ℕ → Lines → Decoded → Action
-instructionStep st k m l Unspecified = refuse st UnspecifiedForm
-instructionStep st k m l (Known i) =
-    executed (st .registers) k (rowOf i (k .d)) (effectAt (st .registers) k m l i (rowOf i (k .d)))
+unfoldable pub executed : Machine → Bus → Lines → Instr → Action
+executed m b l i = executedFrom m (executionWords m b i) l i
+
+-- refusal 3: "step meets an unspecified form"; given is the machine as it was given
+abbrev pub decodedAction : Decoded → Machine → Machine → Bus → Lines → Action
+decodedAction Unspecified given m b l = refusedStep given UnspecifiedForm
+decodedAction (Known i) given m b l = executed m b l i
 
 -- the instruction at R7
-unfoldable pub instructionAt : State → Status → List ℕ → Lines → Action
-instructionAt st k m l = instructionStep st k m l (decodeAt (peekOf m) (getD (st .registers) 7 0) (k .d))
+abbrev pub decoded : Machine → Bus → Decoded
+decoded m b = decodeAt (readOf b) (register 7 m) (m .switches .d)
 
--- Items 3 to 5: "ready and BUSRQ low", "ready, I set and pending", "else one instruction"
-unfoldable pub kindOf : Status → Lines → Kind
-kindOf k l = cond (k .ready && not (l .busrq)) Grant (cond (k .ready && (k .i && k .pending)) Interrupt Instruction)
+abbrev pub planned : Plan → Machine → Machine → Bus → Lines → Action
+planned Halting given m b l = refusedStep given Halted
+planned Granting given m b l = granted m
+planned Interrupting given m b l = interrupted m
+planned Executing given m b l = decodedAction (decoded m b) given m b l
 
-abbrev pub kindAction : State → Status → List ℕ → Lines → Kind → Action
-kindAction st k m l Grant = granted (st .registers) k
-kindAction st k m l Interrupt = interrupted (st .registers) k
-kindAction st k m l Instruction = instructionAt st k m l
+-- a step on an admitted bus: item 1's "halted", items 2 to 5
+unfoldable pub admittedAction : Machine → Bus → Lines → Action
+admittedAction given b l = planned (planOf (noted given l) l) given (noted given l) b l
 
--- Item 1: "memory length, then halted"; item 2: the INTRM level and mark are noted
-unfoldable pub actionOf : State → List ℕ → Lines → Action
-actionOf st m l =
-    let k = notedOf (st .status) l in
-    cond (tooLong m) (refuse st MemoryTooLong)
-    (cond (st .status .halted) (refuse st Halted) (kindAction st k m l (kindOf k l)))
+-- Item 1: "memory length"
+unfoldable pub actionOf : Machine → Bus → Lines → Action
+actionOf given b l = unlessBarred (admissionOf b) (refusedStep given) (admittedAction given b l)
 
--- all that a step leaves: the state, what it reports, and the memory
+-- all that a step leaves
 pub record Outcome : Type 0 where
-  pub state : State
-  pub answer : Reported
-  pub memory : List ℕ
+  pub machine : Machine
+  pub answer : Report StepDone
+  pub bus : Bus
 
 -- the one place where a step's store is made
-abbrev pub made : List ℕ → Action → Outcome
-made m a = record { state = a .state; answer = a .answer; memory = stored m (a .store) }
+abbrev pub made : Bus → Action → Outcome
+made b a = record { machine = a .machine; answer = a .answer; bus = stored b (a .store) }
 
--- one step
-unfoldable pub stepOf : State → List ℕ → Lines → Outcome
-stepOf st m l = made m (actionOf st m l)
+-- one step, and one that was let in already: a run asks once
+unfoldable pub stepOf : Machine → Bus → Lines → Outcome
+stepOf m b l = made b (actionOf m b l)
+
+unfoldable pub admittedStep : Machine → Bus → Lines → Outcome
+admittedStep m b l = made b (admittedAction m b l)
 
 -- the outcome that the code's answer and the memory at its return stand for: the step's contract says that it is `stepOf`
 abbrev pub outcome : Stepped → List ℕ → Outcome
-outcome x m = record { state = x .state; answer = reported (x .answer); memory = m }
+outcome x m = record { machine = machineOf (x .state); answer = stepReport (x .answer); bus = busOf m }
 
--- the code's answer from its parts
-abbrev pub steppedOf : List ℕ → Status → StepAnswer → Stepped
-steppedOf r k a = record { state = stateOf r k; answer = a }
+-- The addresses that a step reads, in order: what decoding reads, then what the execution reads. A refusal before that, a grant and an interrupt read
+-- nothing; an unspecified form is told by what decoding reads.
+abbrev pub decodedReads : Decoded → Machine → Bus → List ℕ
+decodedReads Unspecified m b = []
+decodedReads (Known i) m b =
+    executionReads i (m .switches .d) (readOf b) (register 7 m) (begun (rowOf i (m .switches .d)) m)
+
+abbrev pub plannedReads : Plan → Machine → Bus → List ℕ
+plannedReads Halting m b = []
+plannedReads Granting m b = []
+plannedReads Interrupting m b = []
+plannedReads Executing m b = decodingReads (readOf b) (register 7 m) ++ decodedReads (decoded m b) m b
+
+unfoldable pub stepReads : Machine → Bus → Lines → List ℕ
+stepReads m b l = plannedReads (planOf (noted m l) l) (noted m l) b

@@ -1,12 +1,14 @@
 // The processor: its state, and one step of it.
 ghost use mathlib.Core.Path.{_≡_};
-ghost use Rattle.cpu.specs.State.{resetState, stateOf};
-ghost use Rattle.cpu.specs.Change.{statusAfter};
-ghost use Rattle.cpu.specs.Step.{steppedOf, instructionAt, made, outcome, stepOf};
-ghost use Rattle.cpu.specs.Answer.{isUnspecified, cyclesOf, reported};
+ghost use mathlib.Core.Bool.{false};
+ghost use Rattle.memory.specs.Bus.{busOf, readOf};
+ghost use Rattle.decode.specs.Decode.{decodeAt};
+ghost use Rattle.cpu.specs.Machine.{machineOf, resetMachine};
+ghost use Rattle.cpu.specs.Answer.{stepReport, cyclesOf, meetsUnspecified};
+ghost use Rattle.cpu.specs.Step.{decodedAction, decoded, made, outcome, stepOf, admittedStep};
+ghost use Rattle.cpu.specs.inner.Parts.{machineIn, isUnspecifiedForm, steppedOf};
 use decode::Decoded;
-use decode::rows;
-use decode::rows::Row;
+use memory::Admission;
 use refusal::Refusal;
 
 mod branch;
@@ -18,9 +20,7 @@ mod registers;
 mod requests;
 mod single;
 mod store;
-
-use crate::change::Change;
-use crate::requests::Kind;
+mod types;
 
 // The machine beside its registers: flags S Z O C I D, halted, ready, the previous INTRM level (true: high) and the pending
 // mark. `ready` says that a request is heard before the next instruction.
@@ -50,12 +50,21 @@ pub struct Lines {
     pub external: u16,
 }
 
-// What a step did, with its cycles, or why it was refused.
+// Which item of document 01's order a step goes by: 1 refused as halted, 3 the bus granted, 4 an interrupt served, 5 one
+// instruction.
+pub enum Plan {
+    Halting,
+    Granting,
+    Interrupting,
+    Executing,
+}
+
+// What a step did, with its cycles, or why it was refused. (Cycles of 64 bits make the answer too long to be packed into one number.)
 pub enum StepAnswer {
     Refused(Refusal),
-    Granted(u16),
-    Interrupted(u16),
-    Executed(u16),
+    Granted { cycles: u64 },
+    Interrupted { cycles: u64 },
+    Executed { cycles: u64 },
 }
 
 pub struct Stepped {
@@ -66,8 +75,11 @@ pub struct Stepped {
 // Where a reset starts.
 const RESET_ADDRESS: u16 = 0x1000;
 
+// A step that grants the bus.
+const GRANT_CYCLES: u64 = 1;
+
 pub fn reset() -> State
-    ensures { λ r. ⌜ r ≡ resetState ⌝ }
+    ensures { λ r. ⌜ machineOf r ≡ resetMachine ⌝ }
 {
     State {
         registers: [0, 0, 0, 0, 0, 0, 0, RESET_ADDRESS],
@@ -98,25 +110,8 @@ fn finished(registers: [u16; 8], status: Status, answer: StepAnswer) -> Stepped
     }
 }
 
-// The flags from what the instruction did, and the marks from its row.
-fn status_after(status: Status, row: Row, change: Change) -> Status
-    ensures { λ r. ⌜ r ≡ statusAfter status row change ⌝ }
-{
-    Status {
-        halted: row.halts,
-        s: change.s,
-        z: change.z,
-        o: change.o,
-        c: change.c,
-        i: change.i,
-        d: row.double,
-        ready: row.heard,
-        level: status.level,
-        pending: status.pending,
-    }
-}
-
-// The instruction at R7; `status` is the state's with INTRM noted. Nothing is changed before the last refusal is decided.
+// The instruction at R7; `status` is the state's with INTRM noted. Nothing is changed before the last refusal is decided. The rows
+// see R7 one on: past an instruction of one word.
 fn instruction(
     registers: [u16; 8],
     before: Status,
@@ -124,89 +119,98 @@ fn instruction(
     mem: &mut [u16],
     lines: Lines,
 ) -> Stepped
-    ensures { λ r. ⌜ outcome r (now (mem .exit)) ≡ made (now (mem .entry)) (instructionAt (stateOf registers before) status (now (mem .entry)) lines) ⌝ }
+    requires { ⌜ status .halted ≡ false ⌝ }
+    ensures { λ r. ⌜ outcome r (now (mem .exit)) ≡ made (busOf (now (mem .entry))) (decodedAction (decoded (machineIn registers status) (busOf (now (mem .entry)))) (machineIn registers before) (machineIn registers status) (busOf (now (mem .entry))) lines) ⌝ }
 {
     let pc = registers[7];
     let decoded = decode::decode_at(mem, pc, status.d);
     let Decoded::Known(instr) = decoded else {
         return finished(registers, before, StepAnswer::Refused(Refusal::Unspecified));
     };
-    let row = rows::row_of(instr, status.d);
-    let next = word::wrapping_add(pc, row.words as u16);
-    let change = execute::execute(&registers, status, mem, pc, next, lines.external, instr);
-    let cycles = row.cycles as u16 - change.saved;
+    let seen = registers::put_next(registers, word::wrapping_add(pc, 1));
+    let change = execute::execute(&seen, status, mem, pc, lines.external, instr);
+    let after = change.status;
     finished(
         registers::written(registers, change),
-        status_after(status, row, change),
-        StepAnswer::Executed(cycles),
+        after,
+        StepAnswer::Executed {
+            cycles: change.cycles,
+        },
     )
 }
 
-// One step, in document 01's order.
-pub fn step(state: State, mem: &mut [u16], lines: Lines) -> Stepped
-    ensures { λ r. ⌜ outcome r (now (mem .exit)) ≡ stepOf state (now (mem .entry)) lines ⌝ }
+// One step on a memory that was let in, in document 01's order. A run asks once and makes all its steps by this.
+pub fn admitted_step(state: State, mem: &mut [u16], lines: Lines) -> Stepped
+    ensures { λ r. ⌜ outcome r (now (mem .exit)) ≡ admittedStep (machineOf state) (busOf (now (mem .entry))) lines ⌝ }
 {
     let registers = state.registers;
     let before = state.status;
-    let long = memory::is_too_long(mem);
-    if long {
-        return finished(
-            registers,
-            before,
-            StepAnswer::Refused(Refusal::MemoryTooLong),
-        );
-    }
-    let halted = before.halted;
-    if halted {
-        return finished(registers, before, StepAnswer::Refused(Refusal::Halted));
-    }
     let status = requests::noted(before, lines);
-    let kind = requests::kind_of(status, lines);
-    match kind {
-        Kind::Grant => finished(registers, status, StepAnswer::Granted(rows::GRANT_CYCLES)),
-        Kind::Interrupt => requests::interrupt(registers, status, mem),
-        Kind::Instruction => instruction(registers, before, status, mem, lines),
+    let plan = requests::plan_of(status, lines);
+    match plan {
+        Plan::Halting => finished(registers, before, StepAnswer::Refused(Refusal::Halted)),
+        Plan::Granting => finished(
+            registers,
+            status,
+            StepAnswer::Granted {
+                cycles: GRANT_CYCLES,
+            },
+        ),
+        Plan::Interrupting => requests::interrupt(registers, status, mem),
+        Plan::Executing => instruction(registers, before, status, mem, lines),
+    }
+}
+
+// One step.
+pub fn step(state: State, mem: &mut [u16], lines: Lines) -> Stepped
+    ensures { λ r. ⌜ outcome r (now (mem .exit)) ≡ stepOf (machineOf state) (busOf (now (mem .entry))) lines ⌝ }
+{
+    let admission = memory::admit(mem);
+    match admission {
+        Admission::Barred(refusal) => Stepped {
+            state: state,
+            answer: StepAnswer::Refused(refusal),
+        },
+        Admission::Admitted => admitted_step(state, mem, lines),
     }
 }
 
 // The cycles that a step answers, and 0 for a refused one.
-pub fn cycles(answer: StepAnswer) -> u16
-    ensures { λ r. ⌜ r ≡ cyclesOf (reported answer) ⌝ }
+pub fn cycles(answer: StepAnswer) -> u64
+    ensures { λ r. ⌜ r ≡ cyclesOf (stepReport answer) ⌝ }
 {
     match answer {
         StepAnswer::Refused(_) => 0,
-        StepAnswer::Granted(n) => n,
-        StepAnswer::Interrupted(n) => n,
-        StepAnswer::Executed(n) => n,
+        StepAnswer::Granted { cycles } => cycles,
+        StepAnswer::Interrupted { cycles } => cycles,
+        StepAnswer::Executed { cycles } => cycles,
+    }
+}
+
+// Whether an unspecified form stands at an address.
+fn is_unspecified_at(mem: &[u16], at: u16, double: bool) -> bool
+    ensures { λ r. ⌜ r ≡ isUnspecifiedForm (decodeAt (readOf (busOf (now (mem .entry)))) at double) ⌝ }
+{
+    let decoded = decode::decode_at(mem, at, double);
+    match decoded {
+        Decoded::Unspecified => true,
+        Decoded::Known(_) => false,
     }
 }
 
 // Whether a step from here would be refused for an unspecified form. Nothing is changed: a run looks so at the step that it does
 // not make.
 pub fn is_unspecified_next(state: State, mem: &[u16], lines: Lines) -> bool
-    ensures { λ r. ⌜ r ≡ isUnspecified (stepOf state (now (mem .entry)) lines .answer) ⌝ }
+    ensures { λ r. ⌜ r ≡ meetsUnspecified (admittedStep (machineOf state) (busOf (now (mem .entry))) lines .answer) ⌝ }
 {
-    let long = memory::is_too_long(mem);
-    if long {
-        return false;
-    }
-    let before = state.status;
-    let halted = before.halted;
-    if halted {
-        return false;
-    }
     let registers = state.registers;
+    let before = state.status;
     let status = requests::noted(before, lines);
-    let kind = requests::kind_of(status, lines);
-    match kind {
-        Kind::Grant => false,
-        Kind::Interrupt => false,
-        Kind::Instruction => {
-            let decoded = decode::decode_at(mem, registers[7], status.d);
-            match decoded {
-                Decoded::Unspecified => true,
-                Decoded::Known(_) => false,
-            }
-        }
+    let plan = requests::plan_of(status, lines);
+    match plan {
+        Plan::Halting => false,
+        Plan::Granting => false,
+        Plan::Interrupting => false,
+        Plan::Executing => is_unspecified_at(mem, registers[7], status.d),
     }
 }

@@ -1,26 +1,29 @@
-// What comes before an instruction: INTRM is noted, and where requests are heard the bus is granted or an interrupt served.
+// What a step does, and what comes before an instruction: INTRM is noted, and where requests are heard the bus is granted or an
+// interrupt served.
 ghost use mathlib.Core.Path.{_≡_};
-ghost use Rattle.cpu.specs.State.{notedOf, interruptedRegisters, interruptedStatus};
-ghost use Rattle.cpu.specs.Step.{kindOf, interrupted, made, outcome};
+ghost use mathlib.Core.List.{[]};
+ghost use mathlib.Core.Bool.{true, false};
+ghost use lib.ListN.{getD};
+ghost use Rattle.word.specs.Word.{wrapAdd};
+ghost use Rattle.memory.specs.Bus.{busOf};
+ghost use Rattle.cpu.specs.Machine.{withRegister};
+ghost use Rattle.cpu.specs.Step.{planOf, interrupted, made, outcome};
+ghost use Rattle.cpu.specs.inner.Parts.{machineIn, notedIn, interruptedIn};
 use crate::Lines;
+use crate::Plan;
 use crate::Status;
 use crate::StepAnswer;
 use crate::Stepped;
-use decode::rows;
 
-// What a step does where neither the memory's length nor a halt refuses it: document 01's items 3, 4 and 5.
-pub enum Kind {
-    Grant,
-    Interrupt,
-    Instruction,
-}
+// A step that enters an interrupt.
+const INTERRUPT_CYCLES: u64 = 12;
 
 // Where an interrupt is served.
 const INTERRUPT_ADDRESS: u16 = 0x1004;
 
 // The INTRM level recorded, and the pending mark.
 pub fn noted(status: Status, lines: Lines) -> Status
-    ensures { λ r. ⌜ r ≡ notedOf status lines ⌝ }
+    ensures { λ r. ⌜ r ≡ notedIn status lines ⌝ }
 {
     Status {
         halted: status.halted,
@@ -36,25 +39,33 @@ pub fn noted(status: Status, lines: Lines) -> Status
     }
 }
 
-// Which of the three a step makes, from the status with INTRM noted.
-pub fn kind_of(status: Status, lines: Lines) -> Kind
-    ensures { λ r. ⌜ r ≡ kindOf status lines ⌝ }
+// Which item of document 01's order a step goes by, from the status with INTRM noted. Quiet lines ask for nothing, so they are
+// looked at first.
+pub fn plan_of(status: Status, lines: Lines) -> Plan
+    requires { ⌜ (lines .intrm ≡ true → status .pending ≡ false) ⌝ }
+    ensures { λ r. ⌜ r ≡ planOf (machineIn [] status) lines ⌝ }
 {
-    let ready = status.ready;
-    if ready {
-        if !lines.busrq {
-            return Kind::Grant;
-        }
-        if status.i & status.pending {
-            return Kind::Interrupt;
-        }
+    let halted = status.halted;
+    if halted {
+        return Plan::Halting;
     }
-    Kind::Instruction
+    let quiet = (lines.intrm & lines.busrq) | !status.ready;
+    if quiet {
+        return Plan::Executing;
+    }
+    if !lines.busrq {
+        return Plan::Granting;
+    }
+    if status.i & status.pending {
+        Plan::Interrupting
+    } else {
+        Plan::Executing
+    }
 }
 
 // The registers after interrupt entry: R7 is pushed.
 fn interrupted_registers(registers: [u16; 8]) -> [u16; 8]
-    ensures { λ r. ⌜ r ≡ interruptedRegisters registers ⌝ }
+    ensures { λ r. ⌜ r ≡ withRegister 7 0x1004 (withRegister 6 (wrapAdd (getD registers 6 0) 1) registers) ⌝ }
 {
     [
         registers[0],
@@ -70,7 +81,7 @@ fn interrupted_registers(registers: [u16; 8]) -> [u16; 8]
 
 // The marks after interrupt entry.
 fn interrupted_status(status: Status) -> Status
-    ensures { λ r. ⌜ r ≡ interruptedStatus status ⌝ }
+    ensures { λ r. ⌜ r ≡ interruptedIn status ⌝ }
 {
     Status {
         halted: status.halted,
@@ -88,12 +99,14 @@ fn interrupted_status(status: Status) -> Status
 
 // Interrupt entry.
 pub fn interrupt(registers: [u16; 8], status: Status, mem: &mut [u16]) -> Stepped
-    ensures { λ r. ⌜ outcome r (now (mem .exit)) ≡ made (now (mem .entry)) (interrupted registers status) ⌝ }
+    ensures { λ r. ⌜ outcome r (now (mem .exit)) ≡ made (busOf (now (mem .entry))) (interrupted (machineIn registers status)) ⌝ }
 {
-    memory::poke(mem, registers[6], registers[7]);
+    memory::store(mem, registers[6], registers[7]);
     crate::finished(
         interrupted_registers(registers),
         interrupted_status(status),
-        StepAnswer::Interrupted(rows::INTERRUPT_CYCLES),
+        StepAnswer::Interrupted {
+            cycles: INTERRUPT_CYCLES,
+        },
     )
 }

@@ -1,52 +1,43 @@
--- `instruction` refuses by what the decoder says, and else makes the row's change: each return is the definition's own case.
-use mathlib.Core.Path.{ap}
+-- An instruction is refused by what the decoder says, and else makes its row's change.
+use Prim.Native.Nat.{ℕ}
+use mathlib.Core.Path.{_≡_, ap, sym, _∙_}
+use mathlib.Core.List.{List}
 use lib.ListN.{getD}
-use native.Mathlib.Omega.{arith}
-use Rattle.memory.specs.Memory.{peekOf}
-use Rattle.decode.specs.declared.rows.Row.{Row}
-use Rattle.cpu.specs.declared.change.Change.{Change}
-use Rattle.cpu.specs.Step.{refuse, effectAt, executed, instructionAt}
-use Rattle.cpu.proofs.RowLaws.{cost-least}
+use Rattle.word.specs.Word.{wrapAdd}
+use Rattle.cpu.specs.Machine.{withRegister}
 use borrow.Author.Needs.{needs}
+use Rattle.decode.proofs.DecodeLaws.{decodes-in-range}
+use Rattle.cpu.specs.Step.{refusedStep}
+use Rattle.cpu.proofs.CodeLaws.{instruction-is}
 use Rattle.cpu.proofs.instruction.Statement.{statement}
 use Rattle.cpu.proofs.instruction.Tie as tie
 
 returns : tie.Need-returns
-unfolding instructionAt refuse
-returns c = rw (c .finished .ensures, ← c .before .before .before .decode-at .ensures, c .before .enum-told .given .1)
+unfolding refusedStep
+returns c = rw (c .finished .ensures, ← c .before .before .before .decode-at .ensures .instruction, c .before .enum-told .given .1)
 
-sub-cycles : tie.Need-sub-cycles
-sub-cycles c =
-    let x = c .before .before .before .before in
-    let a = x .before .before .before .before .before .before .before .before .before .before .before .before .args in
-    let e = x .execute .ensures .0 in
-    let r = x .before .before .before .before .before .row-of .ensures in
-    let least = cost-least (a .t1) (a .status) (peekOf (a .mem .now)) (getD (a .t1) 7 0) (x .before .before .before .wrapping-add .result) (a .lines .external) (x .before .before .before .before .before .before .before .decoded .given .0 .0) (a .status .d) in
-    omega (arith, ap (λ (t : Row). t .cycles) r, ap (λ (t : Change). t .saved) e, least)
+execute-requires : tie.Need-execute-requires
+execute-requires c κs =
+    let p = c .before .before in
+    let d = p .before .before .before in (
+      ap (λ (q : List ℕ). getD q 7 0) (p .put-next .ensures) ∙ p .before .wrapping-add .ensures,
+      decodes-in-range _ _ _ _ (sym (d .before .before .decode-at .ensures .instruction) ∙ d .decoded .given .1),
+    )
 
 returns-2 : tie.Need-returns-2
-unfolding instructionAt executed effectAt
-returns-2 c = let t = c .before .before .before .before .before .before .before .before .before .before in rw (c .finished2 .ensures, c .before .status-after .ensures, c .before .before .written .ensures, c .before .before .before .before .before .before .before .execute .ensures .0, c .before .before .before .before .before .before .before .execute .ensures .1, t .wrapping-add .ensures, t .before .before .row-of .ensures, ← t .before .before .before .before .before .before .decode-at .ensures, t .before .before .before .before .decoded .given .1)
+returns-2 c =
+    let x = c .before .before .before .before .before in
+    let p = x .before .before .before in
+    let d = p .before .before .before in
+    let a = d .before .before .before .before .before .args in
+    let seen : p .put-next .result ≡ withRegister 7 (wrapAdd (getD (a .t1) 7 0) 1) (a .t1) =
+    p .put-next .ensures ∙ ap (λ (n : ℕ). withRegister 7 n (a .t1)) (p .before .wrapping-add .ensures) in
+    rw (c .finished2 .ensures, c .before .written .ensures)
+    (instruction-is (a .t1) (a .status) (d .before .before .before .before .before .pre) _ _ _ (a .lines) _ (x .execute .result) (p .put-next .result)
+    (sym (d .before .before .decode-at .ensures .instruction) ∙ d .decoded .given .1)
+    seen
+    (x .execute .ensures .0)
+    (x .execute .ensures .1))
 
 pub instruction-spec : {M : Type 1} → statement M
-instruction-spec =
-    tie.close
-    (tie.spec
-    (λ c. search needs)
-    (λ c κs. search needs)
-    (λ c. search needs)
-    (λ c. search needs)
-    (λ c κs. search needs)
-    (λ c. search needs)
-    returns
-    (λ c κs. search needs)
-    (λ c. search needs)
-    (λ c κs. search needs)
-    (λ c κs. search needs)
-    (λ c. search needs)
-    sub-cycles
-    (λ c κs. search needs)
-    (λ c κs. search needs)
-    (λ c κs. search needs)
-    (λ c. search needs)
-    returns-2)
+instruction-spec = tie.close (tie.spec (λ c. search needs) (λ c κs. search needs) (λ c. search needs) (λ c. search needs) (λ c κs. search needs) (λ c. search needs) returns (λ c κs. search needs) (λ c κs. search needs) execute-requires (λ c κs. search needs) (λ c κs. search needs) (λ c. search needs) returns-2)

@@ -1,5 +1,6 @@
-use Rattle.cpu.specs.Control.{returnRegister}
+-- R4, R5, R6 or none.
 use borrow.Author.Needs.{needs}
+use Rattle.cpu.specs.inner.Control.{returnRegister}
 use Rattle.cpu.proofs.control.return_register.Statement.{statement}
 use Rattle.cpu.proofs.control.return_register.Tie as tie
 

@@ -1,5 +1,6 @@
-use Rattle.cpu.specs.Operate.{destinationOf}
+-- The moved pointer, or the register.
 use borrow.Author.Needs.{needs}
+use Rattle.cpu.specs.inner.Operate.{destinationOf}
 use Rattle.cpu.proofs.operate.destination.Statement.{statement}
 use Rattle.cpu.proofs.operate.destination.Tie as tie
 

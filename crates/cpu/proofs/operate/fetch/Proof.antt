@@ -1,47 +1,33 @@
-use Rattle.cpu.specs.Operate.{fetchOf}
+-- The fetch of each addressing mode.
+use mathlib.Core.Path.{sym}
+use mathlib.Core.Logic.{⊎-elim}
+use native.Mathlib.Omega.{arith}
 use borrow.Author.Needs.{needs}
+use Rattle.cpu.specs.inner.Operate.{fetchedOf}
+use Rattle.cpu.proofs.OperateLaws.{fetched-rising, fetched-through}
 use Rattle.cpu.proofs.operate.fetch.Statement.{statement}
 use Rattle.cpu.proofs.operate.fetch.Tie as tie
 
 returns : tie.Need-returns
-unfolding fetchOf
-returns c = rw (c .plain .ensures, c .before .peek2 .ensures, c .before .before .peek .ensures, c .before .before .before .wrapping-add .ensures, c .before .before .before .before .if1 .taken)
+unfolding fetchedOf
+returns c = rw (c .direct .ensures, c .before .match .keys1)
 
 returns-2 : tie.Need-returns-2
-unfolding fetchOf
-returns-2 c = rw (c .plain2 .ensures, c .before .through .ensures, c .before .before .register .ensures, c .before .before .before .before .if1 .left, c .before .before .before .if2 .taken)
+unfolding fetchedOf
+returns-2 c = rw (c .stack .ensures, c .before .before .match .keys2)
 
 returns-3 : tie.Need-returns-3
-unfolding fetchOf
-returns-3 c = rw (c .stack .ensures, c .before .register2 .ensures, c .before .before .before .before .if1 .left, c .before .before .before .if2 .left, c .before .before .if3 .taken)
+unfolding fetchedOf
+returns-3 c = rw (c .immediate .ensures, c .before .match .keys3)
 
 returns-4 : tie.Need-returns-4
-unfolding fetchOf
-returns-4 c = rw (c .plain3 .ensures, c .before .immediate .ensures, c .before .before .before .before .before .if1 .left, c .before .before .before .before .if2 .left, c .before .before .before .if3 .left, c .before .before .if4 .taken)
+returns-4 c = rw (c .rising .ensures, c .before .register .ensures) (sym (fetched-rising _ _ _ _ _ (omega arith) (omega arith) (omega arith)))
 
 returns-5 : tie.Need-returns-5
-unfolding fetchOf
-returns-5 c = rw (c .auto .ensures, c .before .register3 .ensures, c .before .before .before .before .before .if1 .left, c .before .before .before .before .if2 .left, c .before .before .before .if3 .left, c .before .before .if4 .left)
+returns-5 c =
+    let rest = c .before .before .before .match .rest in
+    rw (c .through .ensures, c .before .register2 .ensures)
+    (sym (fetched-through _ _ _ _ _ (omega arith) (rest .0 .0 .1) (⊎-elim (λ l. omega arith) (λ l. omega arith) (c .before .before .if1 .came))))
 
 pub fetch-spec : {M : Type 1} → statement M
-fetch-spec =
-    tie.close
-    (tie.spec
-    (λ c κs. search needs)
-    (λ c κs. search needs)
-    (λ c κs. search needs)
-    (λ c κs. search needs)
-    returns
-    (λ c κs. search needs)
-    (λ c κs. search needs)
-    (λ c κs. search needs)
-    returns-2
-    (λ c κs. search needs)
-    (λ c κs. search needs)
-    returns-3
-    (λ c κs. search needs)
-    (λ c κs. search needs)
-    (λ c κs. search needs)
-    (λ c κs. search needs)
-    returns-4
-    returns-5)
+fetch-spec = tie.close (tie.spec (λ c κs. search needs) (λ c. search needs) (λ c κs. search needs) (λ c κs. search needs) (λ c κs. search needs) (λ c κs. search needs) (λ c κs. search needs) (λ c κs. search needs) returns returns-2 returns-3 returns-4 returns-5)

@@ -1,6 +1,7 @@
+-- The result of each row.
 use borrow.Author.Tests.{ne-eqb}
-use Rattle.cpu.specs.Single.{singleResult}
 use borrow.Author.Needs.{needs}
+use Rattle.cpu.specs.inner.Single.{singleResult}
 use Rattle.cpu.proofs.single.single_result.Statement.{statement}
 use Rattle.cpu.proofs.single.single_result.Tie as tie
 
@@ -26,11 +27,9 @@ returns-5 c = rw (c .add .ensures, c .before .bit-value .ensures .0, c .before .
 
 returns-6 : tie.Need-returns-6
 unfolding singleResult
-returns-6 c = rw (c .gswd .ensures, c .before .match .keys6)
-
-returns-7 : tie.Need-returns-7
-unfolding singleResult
-returns-7 c = simp (c .from-status .ensures, ne-eqb _ _ (c .before .match .rest .1), ne-eqb _ _ (c .before .match .rest .0 .1), ne-eqb _ _ (c .before .match .rest .0 .0 .1), ne-eqb _ _ (c .before .match .rest .0 .0 .0 .1), ne-eqb _ _ (c .before .match .rest .0 .0 .0 .0 .1), ne-eqb _ _ (c .before .match .rest .0 .0 .0 .0 .0 .1))
+returns-6 c =
+    let rest = c .before .match .rest in
+    simp (c .from-status .ensures, ne-eqb _ _ (rest .1), ne-eqb _ _ (rest .0 .1), ne-eqb _ _ (rest .0 .0 .1), ne-eqb _ _ (rest .0 .0 .0 .1), ne-eqb _ _ (rest .0 .0 .0 .0 .1))
 
 pub single-result-spec : {M : Type 1} → statement M
 single-result-spec =
@@ -46,11 +45,9 @@ single-result-spec =
     (λ c κs. search needs)
     (λ c κs. search needs)
     (λ c κs. search needs)
-    (λ c κs. search needs)
     returns
     returns-2
     returns-3
     returns-4
     returns-5
-    returns-6
-    returns-7)
+    returns-6)

@@ -1,21 +1,13 @@
-use mathlib.Core.Path.{refl}
-use Rattle.cpu.specs.Store.{storeOf}
+-- By the addressing mode.
 use borrow.Author.Needs.{needs}
 use Rattle.cpu.proofs.store.store.Statement.{statement}
 use Rattle.cpu.proofs.store.store.Tie as tie
 
 returns : tie.Need-returns
-unfolding storeOf
-returns c = rw (c .wrapping-add .ensures, c .before .store-pointer .ensures, c .before .before .before .before .poke .ensures, c .before .before .before .before .before .before .store-value .ensures, c .before .before .before .before .before .before .before .store-address .ensures) (refl, refl)
+returns c = rw (c .before .before .before .before .match .keys1) (c .before .before .store-direct .ensures)
+
+returns-2 : tie.Need-returns-2
+returns-2 c = rw (c .before .before .before .before .match .keys2) (c .before .before .store-immediate .ensures)
 
 pub store-spec : {M : Type 1} → statement M
-store-spec =
-    tie.close
-    (tie.spec
-    (λ c κs. search needs)
-    (λ c κs. search needs)
-    (λ c κs. search needs)
-    (λ c κs. search needs)
-    (λ c κs. search needs)
-    (λ c. search needs)
-    returns)
+store-spec = tie.close (tie.spec (λ c κs. search needs) (λ c κs. search needs) (λ c κs. search needs) (λ c. search needs) returns (λ c. search needs) returns-2 (λ c. search needs) (λ c. search needs))

@@ -1,13 +1,11 @@
-use Rattle.cpu.specs.Store.{storePointer}
+-- R4 to R6 move.
 use Rattle.cpu.proofs.store.store_pointer.Statement.{statement}
 use Rattle.cpu.proofs.store.store_pointer.Tie as tie
 
 returns : tie.Need-returns
-unfolding storePointer
 returns c = rw (c .if1 .taken)
 
 returns-2 : tie.Need-returns-2
-unfolding storePointer
 returns-2 c = rw (c .if1 .left)
 
 pub store-pointer-spec : {M : Type 1} → statement M
