@@ -1,229 +1,185 @@
--- The laws of `specs/Laws`, by induction on the steps.
-use Prim.Native.Nat.{ℕ, zero, suc, _+_, _-_, _≤_, _<_}
+-- The laws of `specs/Laws`, by the turns of the run.
+use Prim.Native.Nat.{ℕ, zero, suc, _+_, _≤_, _<_}
 use mathlib.Core.Path.{_≡_, refl, ap, ap₂, sym, subst, _∙_}
-use mathlib.Core.Bool.{Bool, true, false, not, cond, _&&_, true≢false, false≢true}
-use mathlib.Core.List.{List, [], _∷_}
+use mathlib.Core.Bool.{Bool, true, false, true≢false, false≢true}
 use native.Mathlib.Omega.{arith}
-use lib.Dec.{ltb}
-use lib.ListN.{length}
-use borrow.Author.Tests.{ltb-true, ltb-false}
-use Rattle.refusal.specs.declared.Refusal.{Refusal}
-use Rattle.refusal.specs.declared.Refusal.the-variants.{MemoryTooLong, BudgetTooHigh, Halted as HaltedMachine}
-use Rattle.refusal.proofs.Laws.{numbers-apart}
-use Rattle.refusal.specs.Refusals.{refusalNumber}
-use Rattle.word.proofs.Choice.{cond-both}
-use Rattle.memory.specs.Memory.{tooLong}
-use Rattle.cpu.specs.declared.State.{State}
+use Rattle.refusal.specs.Report.{Report, refused, answered, isRefused, UnlessRefused}
+use Rattle.refusal.proofs.ReportLaws.{no-answer, same-answer, same-refusal}
+use Rattle.memory.specs.declared.Admission.the-variants.{Admitted}
+use Rattle.memory.specs.Bus.{Bus, admissionOf}
 use Rattle.cpu.specs.declared.Lines.{Lines}
-use Rattle.cpu.specs.Answer.{cyclesOf, isUnspecified}
-use Rattle.cpu.specs.Step.{stepOf}
-use Rattle.cpu.specs.Steps.{stepsFrom, lastState, lastMemory, cyclesOfAll}
-use Rattle.cpu.proofs.Laws.{cycles-most, step-charges}
+use Rattle.cpu.specs.Machine.{Machine}
+use Rattle.cpu.specs.Answer.{StepDone, cyclesOf, meetsUnspecified}
+use Rattle.cpu.specs.Step.{Outcome, stepOf, admittedStep}
+use Rattle.cpu.specs.Steps.{stepsFrom, lastMachine, lastBus, cyclesOfAll, Unrefused}
+use Rattle.cpu.proofs.ActionLaws.{step-admitted, step-charged, cycles-most}
 use Rattle.run.specs.declared.Cause.{Cause}
 use Rattle.run.specs.declared.Cause.the-variants.{Halted, Unspecified, Budget}
 use Rattle.run.specs.declared.RunAnswer.the-variants.{Refused, Ended}
-use Rattle.run.specs.Run.{RunReported, refused, ended, RunAnswersApart, RunOutcome, refuse, causeOf, finish, goesOn, runFrom, runOn, runOf}
-use Rattle.run.specs.Laws.{repeated, Made, MakesItsSteps, CyclesBelow, CauseSays, CauseIsRight, BudgetIsSpent, NoBudgetNoChange}
-use Rattle.run.proofs.RunLaws.{goes-on, kept, ends-halted, ends-unspecified, ends-budget}
+use Rattle.run.specs.Run.{causeNumber, RunDone, RunsApart, RunOutcome, refusedRun, causeOf, finish, runFrom, runOn}
+use Rattle.run.specs.Laws.{repeated, Made, SumFixesSteps, MakesItsSteps, CyclesBelow, CauseSays, CauseIsRight, BudgetIsSpent, NoBudgetNoChange}
+use Rattle.run.proofs.RunLaws.{ends-halted, ends-unspecified, ends-budget, Rests, budget-spent, machine-halted, form-unspecified, rests, by-turns, by-run}
 
--- what holds of each way that a run can go holds of the run
-by-run : (P : RunOutcome → Type 0) (st : State) (m : List ℕ) (l : Lines) (budget : ℕ) → ((r : Refusal) → P (refuse st m r)) → P (runOn st m l budget 0 0) → P (runOf st m l budget)
-unfolding runOf
-by-run P st m l budget refuses runs =
-    cond-both P (tooLong m) (refuses MemoryTooLong)
-    (cond-both P (ltb 1000000 budget) (refuses BudgetTooHigh) (cond-both P (st .status .halted) (refuses HaltedMachine) runs))
+-- the run from where it stands makes so many steps more
+record Runs (l : Lines) (m : Machine) (b : Bus) (steps cycles : ℕ) (o : RunOutcome) : Type 0 where
+  more : ℕ
+  answer :
+      o .answer
+      ≡ answered (record {
+        steps = steps + more;
+        cycles = cycles + cyclesOfAll (stepsFrom m b (repeated more l));
+        cause = causeNumber (causeOf (o .machine) (o .bus) l);
+      })
+  unrefused : Unrefused (stepsFrom m b (repeated more l))
+  machine : o .machine ≡ lastMachine m (stepsFrom m b (repeated more l))
+  bus : o .bus ≡ lastBus b (stepsFrom m b (repeated more l))
+  admitted : admissionOf (o .bus) ≡ Admitted
 
--- a refusal is no end
-no-end : {A : Type 0} {n steps cycles : ℕ} {cause : Cause} → refused n ≡ ended steps cycles cause → A
-no-end e = let z : _≡_ {A = ℕ} 0 1 = cc in absurd (omega arith)
+same-done : {steps steps′ cycles cycles′ : ℕ} (cause : ℕ) → steps ≡ steps′ → cycles ≡ cycles′ → _≡_ {A = Report RunDone} (answered (record { steps = steps; cycles = cycles; cause = cause })) (answered (record { steps = steps′; cycles = cycles′; cause = cause }))
+same-done cause p q = ap₂ (λ (s c : ℕ). answered (record { steps = s; cycles = c; cause = cause })) p q
 
--- the run from where it stands makes k more steps
-pub record Runs (st : State) (m : List ℕ) (l : Lines) (steps cycles : ℕ) (o : RunOutcome) : Type 0 where
-  pub more : ℕ
-  pub answer : o .answer ≡ ended (steps + more) (cycles + cyclesOfAll (stepsFrom st m (repeated more l))) (causeOf (o .state) (o .memory) l)
-  pub state : o .state ≡ lastState st (stepsFrom st m (repeated more l))
-  pub memory : o .memory ≡ lastMemory m (stepsFrom st m (repeated more l))
+no-more : (l : Lines) (m : Machine) (b : Bus) (steps cycles : ℕ) → admissionOf b ≡ Admitted → Runs l m b steps cycles (finish m b l steps cycles)
+unfolding finish repeated stepsFrom cyclesOfAll lastMachine lastBus Unrefused
+no-more l m b steps cycles s =
+    record { more = 0; answer = same-done _ (omega arith) (omega arith); unrefused = tt; machine = refl; bus = refl; admitted = s }
 
-ended-is : {steps steps′ cycles cycles′ : ℕ} (cause : Cause) → steps ≡ steps′ → cycles ≡ cycles′ → ended steps cycles cause ≡ ended steps′ cycles′ cause
-ended-is cause p q = ap₂ (λ (a b : ℕ). ended a b cause) p q
+-- a step that costs a cycle is not refused
+charged-answers : (a : Report StepDone) → 1 ≤ cyclesOf a → isRefused a ≡ false
+charged-answers (refused n) h = absurd (omega arith)
+charged-answers (answered x) h = refl
 
-no-more : (st : State) (m : List ℕ) (l : Lines) (steps cycles : ℕ) → Runs st m l steps cycles (finish st m l steps cycles)
-unfolding finish repeated stepsFrom cyclesOfAll lastState lastMemory
-no-more st m l steps cycles =
-    record { more = 0; answer = ended-is _ (omega arith) (omega arith); state = refl; memory = refl }
-
-one-more : (st : State) (m : List ℕ) (l : Lines) (steps cycles : ℕ) (o : RunOutcome) → Runs (stepOf st m l .state) (stepOf st m l .memory) l (steps + 1) (cycles + cyclesOf (stepOf st m l .answer)) o → Runs st m l steps cycles o
-unfolding repeated stepsFrom cyclesOfAll lastState lastMemory
-one-more st m l steps cycles o r =
+one-more : (l : Lines) (m : Machine) (b : Bus) (steps cycles : ℕ) (o : RunOutcome) → 1 ≤ cyclesOf (stepOf m b l .answer) → Runs l (stepOf m b l .machine) (stepOf m b l .bus) (steps + 1) (cycles + cyclesOf (stepOf m b l .answer)) o → Runs l m b steps cycles o
+unfolding repeated stepsFrom cyclesOfAll lastMachine lastBus Unrefused
+one-more l m b steps cycles o h r =
     record {
       more = suc (r .more);
-      answer = r .answer ∙ ended-is _ (omega arith) (omega arith);
-      state = r .state;
-      memory = r .memory;
+      answer = r .answer ∙ same-done _ (omega arith) (omega arith);
+      unrefused = (charged-answers (stepOf m b l .answer) h, r .unrefused);
+      machine = r .machine;
+      bus = r .bus;
+      admitted = r .admitted;
     }
 
-runs : (n : ℕ) (st : State) (m : List ℕ) (l : Lines) (budget steps cycles : ℕ) → Runs st m l steps cycles (runFrom n st m l budget steps cycles)
-unfolding runFrom
-runs zero st m l budget steps cycles = no-more st m l steps cycles
-runs (suc n) st m l budget steps cycles =
-    cond-both (Runs st m l steps cycles) (goesOn st m l budget cycles)
-    (one-more st m l steps cycles _ (runs n (stepOf st m l .state) (stepOf st m l .memory) l budget (steps + 1) (cycles + cyclesOf (stepOf st m l .answer))))
-    (no-more st m l steps cycles)
+runs : (m : Machine) (b : Bus) (l : Lines) (budget : ℕ) → admissionOf b ≡ Admitted → Runs l m b 0 0 (runOn m b l budget 0 0)
+runs m b l budget s =
+    by-turns l budget (Runs l)
+    (λ m b steps cycles s e. no-more l m b steps cycles s)
+    (λ m b steps cycles o k r. one-more l m b steps cycles o (k .charged) r)
+    m b 0 0 s
 
-repeated-length : (n : ℕ) (l : Lines) → length (repeated n l) ≡ n
-unfolding repeated
-repeated-length zero l = refl
-repeated-length (suc n) l = ap suc (repeated-length n l)
+-- a step that is not refused costs a cycle
+answered-charged : (m : Machine) (b : Bus) (l : Lines) → isRefused (stepOf m b l .answer) ≡ false → 1 ≤ cyclesOf (stepOf m b l .answer)
+answered-charged m b l = go (stepOf m b l .answer) (step-charged m b l)
+  where
+    go : (a : Report StepDone) → UnlessRefused (λ (x : StepDone). (1 ≤ x .cycles) × (x .cycles ≤ 12)) a → isRefused a ≡ false → 1 ≤ cyclesOf a
+    go (refused n) p e = absurd (true≢false e)
+    go (answered x) p e = p .0
 
-steps-length : (st : State) (m : List ℕ) (ls : List Lines) → length (stepsFrom st m ls) ≡ length ls
-unfolding stepsFrom
-steps-length st m [] = refl
-steps-length st m (l ∷ ls) = ap suc (steps-length (stepOf st m l .state) (stepOf st m l .memory) ls)
-
--- the whole run
-started : (st : State) (m : List ℕ) (l : Lines) (budget : ℕ) → Runs st m l 0 0 (runOn st m l budget 0 0)
-unfolding runOn
-started st m l budget = runs _ st m l budget 0 0
-
-made : (st : State) (m : List ℕ) (l : Lines) (o : RunOutcome) (steps cycles : ℕ) (cause : Cause) → Runs st m l 0 0 o → o .answer ≡ ended steps cycles cause → Made st m l steps cycles o
-made st m l o steps cycles cause r e =
-    let k = r .more in
-    let a = r .answer in
-    let p : steps ≡ 0 + k = cc in
-    let n : steps ≡ k = omega arith in
-    let q : cycles ≡ 0 + cyclesOfAll (stepsFrom st m (repeated k l)) = cc in
-    let s : cycles ≡ cyclesOfAll (stepsFrom st m (repeated k l)) = omega arith in
-    record {
-      count = sym (steps-length st m (repeated steps l) ∙ repeated-length steps l);
-      sum = rw n s;
-      state = rw n (r .state);
-      memory = rw n (r .memory);
-    }
+pub sum-fixes-steps : SumFixesSteps
+unfolding repeated stepsFrom cyclesOfAll Unrefused
+sum-fixes-steps m b l zero zero p q e = refl
+sum-fixes-steps m b l zero (suc k) p q e = absurd (omega (arith, answered-charged m b l (q .0), e))
+sum-fixes-steps m b l (suc n) zero p q e = absurd (omega (arith, answered-charged m b l (p .0), e))
+sum-fixes-steps m b l (suc n) (suc k) p q e =
+    ap (λ (j : ℕ). suc j) (sum-fixes-steps (stepOf m b l .machine) (stepOf m b l .bus) l n k (p .1) (q .1) (omega (arith, e)))
 
 pub makes-its-steps : MakesItsSteps
-unfolding refuse
-makes-its-steps st m l budget steps cycles cause =
-    by-run (λ (o : RunOutcome). o .answer ≡ ended steps cycles cause → Made st m l steps cycles o) st m l budget
-    (λ r e. no-end e)
-    (λ e. made st m l _ steps cycles cause (started st m l budget) e)
-
--- the cycles that a report names lie below the budget and 12
-abbrev BelowIt : ℕ → RunReported → Type 0
-BelowIt budget (refused n) = Unit
-BelowIt budget (ended steps cycles cause) = cycles < budget + 12
-
-below : (n : ℕ) (st : State) (m : List ℕ) (l : Lines) (budget steps cycles : ℕ) → cycles < budget + 12 → BelowIt budget (runFrom n st m l budget steps cycles .answer)
-unfolding runFrom finish
-below zero st m l budget steps cycles h = h
-below (suc n) st m l budget steps cycles h =
-    turn _ (goesOn st m l budget cycles) refl
-    (λ p. below n (stepOf st m l .state) (stepOf st m l .memory) l budget (steps + 1) (cycles + cyclesOf (stepOf st m l .answer)) p)
+unfolding refusedRun
+makes-its-steps m b l budget =
+    by-run m b l budget (λ (o : RunOutcome). UnlessRefused (Made m b l o) (o .answer)) (λ r. tt) (λ s. whole _ (runs m b l budget s))
   where
-    turn : (o : RunOutcome) (b : Bool) → goesOn st m l budget cycles ≡ b → (cycles + cyclesOf (stepOf st m l .answer) < budget + 12 → BelowIt budget (o .answer)) → BelowIt budget (cond b o (finish st m l steps cycles) .answer)
-    turn o true g r =
-        let c = ltb-true cycles budget (goes-on st m l budget cycles g .0) in r (omega (arith, c, cycles-most st m l))
-    turn o false g r = h
+    whole : (o : RunOutcome) → Runs l m b 0 0 o → UnlessRefused (Made m b l o) (o .answer)
+    whole o r =
+        subst (UnlessRefused (Made m b l o)) (sym (r .answer ∙ same-done _ (omega arith) (omega arith)))
+        (record { unrefused = r .unrefused; sum = refl; machine = r .machine; bus = r .bus })
 
 pub cycles-below : CyclesBelow
-unfolding runOn refuse
-cycles-below st m l budget steps cycles cause e =
-    subst (BelowIt budget) e (by-run (λ (o : RunOutcome). BelowIt budget (o .answer)) st m l budget (λ r. tt) (below _ st m l budget 0 0 (omega arith)))
+unfolding refusedRun finish
+cycles-below m b l budget =
+    let Below : RunOutcome → Type 0 = λ o. UnlessRefused (λ (x : RunDone). x .cycles < budget + 12) (o .answer) in
+    by-run m b l budget Below (λ r. tt)
+    (λ s.
+    by-turns l budget (λ m b steps cycles o. cycles < budget + 12 → Below o)
+    (λ m b steps cycles s e h. h)
+    (λ m b steps cycles o k r h. r (omega (arith, k .below, cycles-most m b l)))
+    m b 0 0 s (omega arith))
 
--- the three causes are apart
-halted-unspecified : {A : Type 0} → _≡_ {A = Cause} Halted Unspecified → A
-halted-unspecified e = let z : _≡_ {A = ℕ} 0 1 = cc in absurd (omega arith)
-
-halted-budget : {A : Type 0} → _≡_ {A = Cause} Budget Halted → A
-halted-budget e = let z : _≡_ {A = ℕ} 0 1 = cc in absurd (omega arith)
-
-unspecified-budget : {A : Type 0} → _≡_ {A = Cause} Budget Unspecified → A
-unspecified-budget e = let z : _≡_ {A = ℕ} 0 1 = cc in absurd (omega arith)
-
-cause-says : (o : RunOutcome) (l : Lines) (cause : Cause) → cause ≡ causeOf (o .state) (o .memory) l → CauseSays o l cause
-cause-says o l cause e = go (o .state .status .halted) (isUnspecified (stepOf (o .state) (o .memory) l .answer)) refl refl
+-- the cause says what holds at the end
+cause-says : (l : Lines) (o : RunOutcome) (x : RunDone) → admissionOf (o .bus) ≡ Admitted → x .cause ≡ causeNumber (causeOf (o .machine) (o .bus) l) → CauseSays l o x
+cause-says l o x s e = go (o .machine .running .halted) (meetsUnspecified (stepOf (o .machine) (o .bus) l .answer)) refl refl
   where
-    go : (h u : Bool) → o .state .status .halted ≡ h → isUnspecified (stepOf (o .state) (o .memory) l .answer) ≡ u → CauseSays o l cause
+    met : meetsUnspecified (admittedStep (o .machine) (o .bus) l .answer) ≡ meetsUnspecified (stepOf (o .machine) (o .bus) l .answer)
+    met = ap (λ (y : Outcome). meetsUnspecified (y .answer)) (sym (step-admitted (o .machine) (o .bus) l s))
+
+    go : (h u : Bool) → o .machine .running .halted ≡ h → meetsUnspecified (stepOf (o .machine) (o .bus) l .answer) ≡ u → CauseSays l o x
     go true u p q =
-        let c = e ∙ ends-halted (o .state) (o .memory) l p in
+        let c = e ∙ ap causeNumber (ends-halted (o .machine) (o .bus) l p) in
         record {
           halted = (λ x. p, λ x. c);
-          unspecified = (λ x. halted-unspecified (sym c ∙ x), λ x. absurd (true≢false (sym p ∙ x .0)));
+          unspecified = (λ x. absurd (omega (arith, c, x)), λ x. absurd (true≢false (sym p ∙ x .0)));
         }
     go false true p q =
-        let c = e ∙ ends-unspecified (o .state) (o .memory) l p q in
+        let c = e ∙ ap causeNumber (ends-unspecified (o .machine) (o .bus) l p (met ∙ q)) in
         record {
-          halted = (λ x. halted-unspecified (sym x ∙ c), λ x. absurd (false≢true (sym p ∙ x)));
+          halted = (λ x. absurd (omega (arith, c, x)), λ x. absurd (false≢true (sym p ∙ x)));
           unspecified = (λ x. (p, q), λ x. c);
         }
     go false false p q =
-        let c = e ∙ ends-budget (o .state) (o .memory) l p q in
+        let c = e ∙ ap causeNumber (ends-budget (o .machine) (o .bus) l p (met ∙ q)) in
         record {
-          halted = (λ x. halted-budget (sym c ∙ x), λ x. absurd (false≢true (sym p ∙ x)));
-          unspecified = (λ x. unspecified-budget (sym c ∙ x), λ x. absurd (false≢true (sym q ∙ x .1)));
+          halted = (λ x. absurd (omega (arith, c, x)), λ x. absurd (false≢true (sym p ∙ x)));
+          unspecified = (λ x. absurd (omega (arith, c, x)), λ x. absurd (false≢true (sym q ∙ x .1)));
         }
 
-right-cause : (st : State) (m : List ℕ) (l : Lines) (o : RunOutcome) (steps cycles : ℕ) (cause : Cause) → Runs st m l 0 0 o → o .answer ≡ ended steps cycles cause → CauseSays o l cause
-right-cause st m l o steps cycles cause r e =
-    let a = r .answer in
-    let c : cause ≡ causeOf (o .state) (o .memory) l = cc in
-    cause-says o l cause c
-
 pub cause-is-right : CauseIsRight
-unfolding refuse
-cause-is-right st m l budget steps cycles cause =
-    by-run (λ (o : RunOutcome). o .answer ≡ ended steps cycles cause → CauseSays o l cause) st m l budget
-    (λ r e. no-end e)
-    (λ e. right-cause st m l _ steps cycles cause (started st m l budget) e)
-
-all-on : (a b c : Bool) → a ≡ true → b ≡ false → c ≡ false → (a && (not b && not c)) ≡ true
-all-on a b c p q r = rw (p, q, r)
-
--- a run that goes on no further, and neither is halted nor meets an unspecified form, has spent its budget
-stopped : (st : State) (m : List ℕ) (l : Lines) (budget cycles : ℕ) → goesOn st m l budget cycles ≡ false → causeOf st m l ≡ Budget → budget ≤ cycles
-unfolding goesOn
-stopped st m l budget cycles g c =
-    go (ltb cycles budget) (st .status .halted) (isUnspecified (stepOf st m l .answer)) refl refl refl
+unfolding refusedRun
+cause-is-right m b l budget =
+    by-run m b l budget (λ (o : RunOutcome). UnlessRefused (CauseSays l o) (o .answer)) (λ r. tt) (λ s. whole _ (runs m b l budget s))
   where
-    go : (b h u : Bool) → ltb cycles budget ≡ b → st .status .halted ≡ h → isUnspecified (stepOf st m l .answer) ≡ u → budget ≤ cycles
-    go false h u p q r = ltb-false cycles budget p
-    go true true u p q r = halted-budget (sym c ∙ ends-halted st m l q)
-    go true false true p q r = unspecified-budget (sym c ∙ ends-unspecified st m l q r)
-    go true false false p q r = absurd (true≢false (sym (all-on _ _ _ p q r) ∙ g))
+    whole : (o : RunOutcome) → Runs l m b 0 0 o → UnlessRefused (CauseSays l o) (o .answer)
+    whole o r = subst (UnlessRefused (CauseSays l o)) (sym (r .answer)) (cause-says l o _ (r .admitted) refl)
 
--- what a report says of the budget
-abbrev SpentIt : ℕ → RunReported → Type 0
-SpentIt budget (refused n) = Unit
-SpentIt budget (ended steps cycles cause) = cause ≡ Budget → budget ≤ cycles
-
-spends : (n : ℕ) (st : State) (m : List ℕ) (l : Lines) (budget steps cycles : ℕ) → tooLong m ≡ false → budget ≤ cycles + n → SpentIt budget (runFrom n st m l budget steps cycles .answer)
-unfolding runFrom finish
-spends zero st m l budget steps cycles s h = λ e. omega arith
-spends (suc n) st m l budget steps cycles s h =
-    turn _ (goesOn st m l budget cycles) refl
-    (λ p. spends n (stepOf st m l .state) (stepOf st m l .memory) l budget (steps + 1) (cycles + cyclesOf (stepOf st m l .answer)) (kept st m l s) (omega (arith, p)))
-  where
-    turn : (o : RunOutcome) (b : Bool) → goesOn st m l budget cycles ≡ b → (1 ≤ cyclesOf (stepOf st m l .answer) → SpentIt budget (o .answer)) → SpentIt budget (cond b o (finish st m l steps cycles) .answer)
-    turn o true g r = let a = goes-on st m l budget cycles g in r (step-charges st m l s (a .1) (a .2))
-    turn o false g r = stopped st m l budget cycles g
+-- where the run rests and its cause is the budget, the budget is spent
+rests-spent : (m : Machine) (b : Bus) (l : Lines) (budget cycles : ℕ) → Rests m b l budget cycles → causeNumber (causeOf m b l) ≡ causeNumber Budget → budget ≤ cycles
+rests-spent m b l budget cycles (budget-spent h) e = h
+rests-spent m b l budget cycles (machine-halted h) e = let c = ap causeNumber (ends-halted m b l h) in absurd (omega (arith, c, e))
+rests-spent m b l budget cycles (form-unspecified h u) e = let c = ap causeNumber (ends-unspecified m b l h u) in absurd (omega (arith, c, e))
 
 pub budget-is-spent : BudgetIsSpent
-unfolding runOf runOn refuse
-budget-is-spent st m l budget steps cycles e = subst (SpentIt budget) e (go (tooLong m) refl) refl
-  where
-    go : (b : Bool) → tooLong m ≡ b → SpentIt budget (cond b (refuse st m MemoryTooLong) (cond (ltb 1000000 budget) (refuse st m BudgetTooHigh) (cond (st .status .halted) (refuse st m HaltedMachine) (runOn st m l budget 0 0))) .answer)
-    go true s = tt
-    go false s =
-        cond-both (λ (o : RunOutcome). SpentIt budget (o .answer)) (ltb 1000000 budget) tt
-        (cond-both (λ (o : RunOutcome). SpentIt budget (o .answer)) (st .status .halted) tt (spends (budget - 0) st m l budget 0 0 s (omega arith)))
+unfolding refusedRun finish
+budget-is-spent m b l budget =
+    let Spent : RunOutcome → Type 0 = λ o. UnlessRefused (λ (x : RunDone). x .cause ≡ causeNumber Budget → budget ≤ x .cycles) (o .answer) in
+    by-run m b l budget Spent (λ r. tt)
+    (λ s.
+    by-turns l budget (λ m b steps cycles o. Spent o)
+    (λ m b steps cycles s e. rests-spent m b l budget cycles (rests m b l budget cycles e))
+    (λ m b steps cycles o k r. r)
+    m b 0 0 s)
 
 pub no-budget-no-change : NoBudgetNoChange
-unfolding refuse runOn runFrom finish
-no-budget-no-change st m l =
-    by-run (λ (o : RunOutcome). (o .state ≡ st) × (o .memory ≡ m)) st m l 0 (λ r. (refl, refl)) (refl, refl)
+unfolding refusedRun runOn runFrom finish
+no-budget-no-change m b l =
+    by-run m b l 0 (λ (o : RunOutcome). (o .machine ≡ m) × (o .bus ≡ b)) (λ r. (refl, refl)) (λ s. (refl, refl))
 
-pub run-answers-apart : RunAnswersApart
-run-answers-apart (Refused a) (Refused b) e =
-    let n : refusalNumber a ≡ refusalNumber b = cc in ap Refused (numbers-apart a b n)
-run-answers-apart (Refused a) (Ended s c k) e = no-end e
-run-answers-apart (Ended s c k) (Refused b) e = no-end (sym e)
-run-answers-apart (Ended s c k) (Ended s′ c′ k′) e = cc
+-- no two causes share a number
+same-cause : (a b : Cause) → causeNumber a ≡ causeNumber b → a ≡ b
+same-cause Halted Halted e = refl
+same-cause Halted Unspecified e = absurd (omega arith)
+same-cause Halted Budget e = absurd (omega arith)
+same-cause Unspecified Halted e = absurd (omega arith)
+same-cause Unspecified Unspecified e = refl
+same-cause Unspecified Budget e = absurd (omega arith)
+same-cause Budget Halted e = absurd (omega arith)
+same-cause Budget Unspecified e = absurd (omega arith)
+same-cause Budget Budget e = refl
+
+pub runs-apart : RunsApart
+runs-apart (Refused a) (Refused b) e = ap Refused (same-refusal a b e)
+runs-apart (Refused a) (Ended s c k) e = no-answer e
+runs-apart (Ended s c k) (Refused b) e = no-answer (sym e)
+runs-apart (Ended s c k) (Ended s′ c′ k′) e =
+    let x = same-answer e in
+    let p = ap (λ (y : RunDone). y .steps) x in
+    let q = ap (λ (y : RunDone). y .cycles) x in
+    let n = same-cause k k′ (ap (λ (y : RunDone). y .cause) x) in
+    cc

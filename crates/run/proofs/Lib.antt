@@ -1,4 +1,4 @@
--- Laws of the loop and of the run.
-pub mod LoopLaws
+-- What is proved of the run: `RunLaws` has its induction and the ways that it can go, `LoopLaws` the code's loop.
 pub mod RunLaws
+pub mod LoopLaws
 pub mod Laws

@@ -1,19 +1,31 @@
--- The loop by its own rule, with no count.
+-- The code's loop by its own rule, with no count: its end is the run's, and with a budget of 1 it is one step.
 use Prim.Native.Nat.{ℕ, zero, suc, _+_, _-_, _≤_, _<_}
-use mathlib.Core.Path.{_≡_, refl, ap, sym, _∙_}
-use mathlib.Core.Bool.{Bool, true, false, cond}
+use mathlib.Core.Path.{_≡_, refl, ap, ap₂, sym, _∙_}
+use mathlib.Core.Bool.{Bool, true, false, cond, false≢true}
 use mathlib.Core.List.{List}
 use native.Mathlib.Omega.{arith}
 use lib.Dec.{eqb, ltb}
 use lib.ListN.{length}
-use borrow.Author.Tests.{eqb-false, le-ltb, lt-ltb, eq-eqb, ne-eqb}
-use Rattle.word.proofs.Choice.{cond-true, cond-false}
+use borrow.Author.Tests.{eqb-false, ltb-true, ltb-false, le-ltb, lt-ltb, eq-eqb, ne-eqb}
+use Rattle.refusal.specs.Report.{Report, refused, answered}
+use Rattle.word.proofs.Choice.{cond-true, cond-false, cond-both}
+use Rattle.memory.specs.declared.Admission.the-variants.{Admitted}
+use Rattle.memory.specs.Bus.{Bus, busOf, admissionOf}
 use Rattle.cpu.specs.declared.Lines.{Lines}
 use Rattle.cpu.specs.declared.Stepped.{Stepped}
-use Rattle.cpu.specs.Answer.{reported, cyclesOf}
-use Rattle.cpu.specs.Step.{Outcome, outcome, stepOf}
-use Rattle.cpu.proofs.Laws.{keeps-length}
-use Rattle.run.specs.inner.Loop.{LoopEnd, stop, loopFrom, loopOn}
+use Rattle.cpu.specs.Machine.{Machine, machineOf}
+use Rattle.cpu.specs.Answer.{StepDone, stepReport, cyclesOf, meetsUnspecified}
+use Rattle.cpu.specs.Step.{Outcome, outcome, refusedStep, stepOf, admittedStep}
+use Rattle.cpu.proofs.ActionLaws.{step-admitted, step-halted, admitted-most, uncharged-keeps-all}
+use Rattle.run.specs.Run.{RunOutcome, finish, goesOn, runOn}
+use Rattle.run.specs.inner.Loop.{LoopEnd, unstepped, stop, loopFrom, loopOn, loopOf}
+use Rattle.run.proofs.RunLaws.{Goes, Rests, budget-spent, machine-halted, form-unspecified, rests, by-turns}
+
+abbrev next : Lines → Outcome → Outcome
+next l o = admittedStep (o .machine) (o .bus) l
+
+abbrev cost : Lines → Outcome → ℕ
+cost l o = cyclesOf (next l o .answer)
 
 module _ (l : Lines) (budget : ℕ) where
   -- any two counts that suffice
@@ -24,50 +36,123 @@ module _ (l : Lines) (budget : ℕ) where
   loop-same (suc n) zero steps cycles o p q = cond-false _ _ (le-ltb cycles budget (omega arith))
   loop-same (suc n) (suc k) steps cycles o p q =
       ap (λ (e : LoopEnd). cond (ltb cycles budget) e (stop steps cycles o))
-      (turn (eqb (cyclesOf (stepOf (o .state) (o .memory) l .answer)) 0) refl
-      (λ h. loop-same n k (steps + 1) (cycles + cyclesOf (stepOf (o .state) (o .memory) l .answer)) (stepOf (o .state) (o .memory) l) (omega (arith, h)) (omega (arith, h))))
+      (turn (eqb (cost l o) 0) refl (λ h. loop-same n k (steps + 1) (cycles + cost l o) (next l o) (omega (arith, h)) (omega (arith, h))))
     where
-      turn : {x y : LoopEnd} (b : Bool) → eqb (cyclesOf (stepOf (o .state) (o .memory) l .answer)) 0 ≡ b → (1 ≤ cyclesOf (stepOf (o .state) (o .memory) l .answer) → x ≡ y) → cond b (stop steps cycles (stepOf (o .state) (o .memory) l)) x ≡ cond b (stop steps cycles (stepOf (o .state) (o .memory) l)) y
+      turn : {x y : LoopEnd} (t : Bool) → eqb (cost l o) 0 ≡ t → (1 ≤ cost l o → x ≡ y) → cond t (stop steps cycles (next l o)) x ≡ cond t (stop steps cycles (next l o)) y
       turn true e h = refl
-      turn false e h = h (omega (arith, eqb-false (cyclesOf (stepOf (o .state) (o .memory) l .answer)) 0 e))
+      turn false e h = h (omega (arith, eqb-false (cost l o) 0 e))
 
-  pub loop-equation : (steps cycles : ℕ) (o : Outcome) → loopOn l budget steps cycles o ≡ cond (ltb cycles budget) (cond (eqb (cyclesOf (stepOf (o .state) (o .memory) l .answer)) 0) (stop steps cycles (stepOf (o .state) (o .memory) l)) (loopOn l budget (steps + 1) (cycles + cyclesOf (stepOf (o .state) (o .memory) l .answer)) (stepOf (o .state) (o .memory) l))) (stop steps cycles o)
+  loop-equation : (steps cycles : ℕ) (o : Outcome) → loopOn l budget steps cycles o ≡ cond (ltb cycles budget) (cond (eqb (cost l o) 0) (stop steps cycles (next l o)) (loopOn l budget (steps + 1) (cycles + cost l o) (next l o))) (stop steps cycles o)
   unfolding loopOn loopFrom
   loop-equation steps cycles o =
-      let next = stepOf (o .state) (o .memory) l in
       loop-same (budget - cycles) (suc (budget - cycles)) steps cycles o (omega arith) (omega arith)
-      ∙ ap (λ (e : LoopEnd). cond (ltb cycles budget) (cond (eqb (cyclesOf (next .answer)) 0) (stop steps cycles next) e) (stop steps cycles o))
-      (loop-same (budget - cycles) (budget - (cycles + cyclesOf (next .answer))) (steps + 1) (cycles + cyclesOf (next .answer)) next (omega arith) (omega arith))
+      ∙ ap (λ (e : LoopEnd). cond (ltb cycles budget) (cond (eqb (cost l o) 0) (stop steps cycles (next l o)) e) (stop steps cycles o))
+      (loop-same (budget - cycles) (budget - (cycles + cost l o)) (steps + 1) (cycles + cost l o) (next l o) (omega arith) (omega arith))
 
--- the loop's invariant: the rest of the loop is the whole of it, and no step was free
-pub record Looping (l : Lines) (budget : ℕ) (start o : Outcome) (steps cycles : ℕ) : Type 0 where
-  pub same : loopOn l budget steps cycles o ≡ loopOn l budget 0 0 start
+  -- the loop by the way a turn goes
+  module _ (steps cycles : ℕ) (o : Outcome) where
+    pub loop-spent : budget ≤ cycles → loopOn l budget steps cycles o ≡ stop steps cycles o
+    loop-spent h = loop-equation steps cycles o ∙ cond-false _ _ (le-ltb cycles budget h)
+
+    pub loop-refused : cycles < budget → cost l o ≡ 0 → loopOn l budget steps cycles o ≡ stop steps cycles (next l o)
+    loop-refused h z = loop-equation steps cycles o ∙ cond-true _ _ (lt-ltb cycles budget h) ∙ cond-true _ _ (eq-eqb _ 0 z)
+
+    pub loop-on : cycles < budget → (cost l o ≡ 0 → ⊥) → loopOn l budget steps cycles o ≡ loopOn l budget (steps + 1) (cycles + cost l o) (next l o)
+    loop-on h z = loop-equation steps cycles o ∙ cond-true _ _ (lt-ltb cycles budget h) ∙ cond-false _ _ (ne-eqb _ 0 z)
+
+-- an answer of 3 costs nothing, nor does the step of a halted machine
+unspecified-free : (a : Report StepDone) → meetsUnspecified a ≡ true → cyclesOf a ≡ 0
+unspecified-free (refused n) e = refl
+unspecified-free (answered x) e = absurd (false≢true e)
+
+halted-free : (m : Machine) (b : Bus) (l : Lines) → admissionOf b ≡ Admitted → m .running .halted ≡ true → cyclesOf (stepOf m b l .answer) ≡ 0
+unfolding refusedStep
+halted-free m b l s h = ap (λ (o : Outcome). cyclesOf (o .answer)) (step-halted m b l s h)
+
+-- the run's outcome where the loop ends
+abbrev pub endingOf : Lines → LoopEnd → RunOutcome
+endingOf l e = finish (e .left .machine) (e .left .bus) l (e .steps) (e .cycles)
+
+module _ (l : Lines) (budget : ℕ) where
+  -- the loop goes on from what a step left; what the step answered does not count
+  abbrev from : Machine → Bus → Report StepDone → Outcome
+  from m b a = record { machine = m; answer = a; bus = b }
+
+  abbrev EndsAlike : Machine → Bus → ℕ → ℕ → RunOutcome → Type 0
+  EndsAlike m b steps cycles o = (a : Report StepDone) → o ≡ endingOf l (loopOn l budget steps cycles (from m b a))
+
+  -- a step that costs nothing leaves all as it was
+  end-free : (m : Machine) (b : Bus) (steps cycles : ℕ) → admissionOf b ≡ Admitted → cyclesOf (stepOf m b l .answer) ≡ 0 → EndsAlike m b steps cycles (finish m b l steps cycles)
+  end-free m b steps cycles s z a = go (ltb cycles budget) refl
+    where
+      go : (t : Bool) → ltb cycles budget ≡ t → finish m b l steps cycles ≡ endingOf l (loopOn l budget steps cycles (from m b a))
+      go false p = ap (endingOf l) (sym (loop-spent l budget steps cycles (from m b a) (ltb-false cycles budget p)))
+      go true p =
+          let k = uncharged-keeps-all m b l z in
+          let e = step-admitted m b l s in
+          ap₂ (λ (x : Machine) (y : Bus). finish x y l steps cycles) (sym (k .0)) (sym (k .1))
+          ∙ ap (λ (o : Outcome). endingOf l (stop steps cycles o)) e
+          ∙ ap (endingOf l) (sym (loop-refused l budget steps cycles (from m b a) (ltb-true cycles budget p) (ap (λ (o : Outcome). cyclesOf (o .answer)) (sym e) ∙ z)))
+
+  end-alike : (m : Machine) (b : Bus) (steps cycles : ℕ) → admissionOf b ≡ Admitted → goesOn m b l budget cycles ≡ false → EndsAlike m b steps cycles (finish m b l steps cycles)
+  end-alike m b steps cycles s e = go (rests m b l budget cycles e)
+    where
+      go : Rests m b l budget cycles → EndsAlike m b steps cycles (finish m b l steps cycles)
+      go (budget-spent h) = λ a. ap (endingOf l) (sym (loop-spent l budget steps cycles (from m b a) h))
+      go (machine-halted h) = end-free m b steps cycles s (halted-free m b l s h)
+      go (form-unspecified h u) = end-free m b steps cycles s (ap (λ (o : Outcome). cyclesOf (o .answer)) (step-admitted m b l s) ∙ unspecified-free (admittedStep m b l .answer) u)
+
+  step-alike : (m : Machine) (b : Bus) (steps cycles : ℕ) (o : RunOutcome) → Goes m b l budget cycles → EndsAlike (stepOf m b l .machine) (stepOf m b l .bus) (steps + 1) (cycles + cyclesOf (stepOf m b l .answer)) o → EndsAlike m b steps cycles o
+  step-alike m b steps cycles o k r a =
+      let e = step-admitted m b l (k .admitted) in
+      let q = ap (λ (x : Outcome). cyclesOf (x .answer)) e in
+      r (stepOf m b l .answer)
+      ∙ ap (λ (x : Outcome). endingOf l (loopOn l budget (steps + 1) (cycles + cyclesOf (x .answer)) x)) e
+      ∙ ap (endingOf l) (sym (loop-on l budget steps cycles (from m b a) (k .below) (λ z. omega (arith, k .charged, q, z))))
+
+  pub loop-is-run : (m : Machine) (b : Bus) → admissionOf b ≡ Admitted → runOn m b l budget 0 0 ≡ endingOf l (loopOf m b l budget)
+  unfolding loopOf
+  loop-is-run m b s = by-turns l budget EndsAlike end-alike step-alike m b 0 0 s (unstepped m b .answer)
+
+-- a budget of 1 makes one step
+pub loop-is-step : (m : Machine) (b : Bus) (l : Lines) → admissionOf b ≡ Admitted → loopOf m b l 1 .left ≡ stepOf m b l
+unfolding loopOf loopOn loopFrom
+loop-is-step m b l s =
+    cond-both (λ (e : LoopEnd). e .left ≡ admittedStep m b l) (eqb (cyclesOf (admittedStep m b l .answer)) 0) refl refl
+    ∙ sym (step-admitted m b l s)
+
+-- the code's loop: the rest of it is the whole, no step was free, the last one went past the budget by less than its own cycles, and the memory has
+-- this length
+pub record Looping (l : Lines) (budget : ℕ) (start : Outcome) (len : ℕ) (x : Stepped) (m : List ℕ) (steps cycles : ℕ) : Type 0 where
+  pub same : loopOn l budget steps cycles (outcome x m) ≡ loopOn l budget 0 0 start
   pub few : steps ≤ cycles
-  pub size : length (o .memory) ≡ length (start .memory)
+  pub near : cycles < budget + 12
+  pub size : length m ≡ len
 
-module _ {l : Lines} {budget : ℕ} {start o : Outcome} {steps cycles : ℕ} (k : Looping l budget start o steps cycles) where
-  -- the budget is spent
-  pub loop-spent : budget ≤ cycles → stop steps cycles o ≡ loopOn l budget 0 0 start
-  loop-spent h = sym (loop-equation l budget steps cycles o ∙ cond-false _ _ (le-ltb cycles budget h)) ∙ k .same
+module _ {l : Lines} {budget : ℕ} {start : Outcome} {len : ℕ} {x : Stepped} {m : List ℕ} {steps cycles : ℕ} (k : Looping l budget start len x m steps cycles) where
+  pub ends-spent : budget ≤ cycles → stop steps cycles (outcome x m) ≡ loopOn l budget 0 0 start
+  ends-spent h = sym (loop-spent l budget steps cycles (outcome x m) h) ∙ k .same
 
-  -- the step that was made, and what it cost
-  module _ (x : Stepped) {m : List ℕ} (e : outcome x m ≡ stepOf (o .state) (o .memory) l) (below : cycles < budget) where
-    made-turn : loopOn l budget steps cycles o ≡ cond (eqb (cyclesOf (reported (x .answer))) 0) (stop steps cycles (outcome x m)) (loopOn l budget (steps + 1) (cycles + cyclesOf (reported (x .answer))) (outcome x m))
-    made-turn =
-        loop-equation l budget steps cycles o
-        ∙ cond-true _ _ (lt-ltb cycles budget below)
-        ∙ ap (λ (n : Outcome). cond (eqb (cyclesOf (n .answer)) 0) (stop steps cycles n) (loopOn l budget (steps + 1) (cycles + cyclesOf (n .answer)) n)) (sym e)
+  -- a step was made, at this cost
+  module _ (y : Stepped) {n : List ℕ} {spent : ℕ} (e : outcome y n ≡ next l (outcome x m)) (p : spent ≡ cyclesOf (stepReport (y .answer))) (below : cycles < budget) where
+    costs : cost l (outcome x m) ≡ spent
+    costs = ap (λ (o : Outcome). cyclesOf (o .answer)) (sym e) ∙ sym p
 
-    pub loop-refused : {spent : ℕ} → spent ≡ cyclesOf (reported (x .answer)) → spent ≡ 0 → stop steps cycles (outcome x m) ≡ loopOn l budget 0 0 start
-    loop-refused p z = sym (made-turn ∙ cond-true _ _ (eq-eqb _ 0 (sym p ∙ z))) ∙ k .same
+    pub costs-few : spent ≤ 12
+    costs-few = omega (arith, costs, admitted-most (machineOf (x .state)) (busOf m) l)
 
-    pub loop-on : {spent : ℕ} → spent ≡ cyclesOf (reported (x .answer)) → (spent ≡ 0 → ⊥) → Looping l budget start (outcome x m) (steps + 1) (cycles + spent)
-    loop-on {spent} p z =
+    pub ends-refused : spent ≡ 0 → stop steps cycles (outcome y n) ≡ loopOn l budget 0 0 start
+    ends-refused z =
+        ap (stop steps cycles) e ∙ sym (loop-refused l budget steps cycles (outcome x m) below (costs ∙ z)) ∙ k .same
+
+    pub goes-round : length n ≡ length m → (spent ≡ 0 → ⊥) → Looping l budget start len y n (steps + 1) (cycles + spent)
+    goes-round h z =
         record {
           same =
-              ap (λ (n : ℕ). loopOn l budget (steps + 1) (cycles + n) (outcome x m)) p
-              ∙ sym (made-turn ∙ cond-false _ _ (ne-eqb _ 0 (λ y. z (p ∙ y))))
+              ap₂ (λ (c : ℕ) (o : Outcome). loopOn l budget (steps + 1) (cycles + c) o) (sym costs) e
+              ∙ sym (loop-on l budget steps cycles (outcome x m) below (λ y. z (sym costs ∙ y)))
               ∙ k .same;
           few = omega (arith, k .few);
-          size = ap (λ (n : Outcome). length (n .memory)) e ∙ keeps-length (o .state) (o .memory) l ∙ k .size;
+          near = omega (arith, costs-few);
+          size = h ∙ k .size;
         }

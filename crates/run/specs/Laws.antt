@@ -4,73 +4,78 @@ use mathlib.Core.Path.{_≡_}
 use mathlib.Core.Logic.{_↔_}
 use mathlib.Core.Bool.{true, false, cond}
 use mathlib.Core.List.{List, [], _∷_}
-use lib.ListN.{length}
-use Rattle.memory.specs.Memory.{tooLong}
-use Rattle.cpu.specs.declared.State.{State}
+use Rattle.refusal.specs.Report.{UnlessRefused}
+use Rattle.memory.specs.declared.Admission.the-variants.{Admitted}
+use Rattle.memory.specs.Bus.{Bus, admissionOf}
 use Rattle.cpu.specs.declared.Lines.{Lines}
-use Rattle.cpu.specs.Answer.{cyclesOf, isUnspecified}
+use Rattle.cpu.specs.Machine.{Machine}
+use Rattle.cpu.specs.Answer.{cyclesOf, meetsUnspecified}
 use Rattle.cpu.specs.Step.{stepOf}
-use Rattle.cpu.specs.Steps.{stepsFrom, lastState, lastMemory, cyclesOfAll}
-use Rattle.run.specs.declared.Cause.{Cause}
+use Rattle.cpu.specs.Steps.{stepsFrom, lastMachine, lastBus, cyclesOfAll, Unrefused}
 use Rattle.run.specs.declared.Cause.the-variants.{Halted, Unspecified, Budget}
-use Rattle.run.specs.Run.{RunOutcome, ended, finish, goesOn, runOn, runOf}
+use Rattle.run.specs.Run.{causeNumber, RunDone, RunOutcome, finish, goesOn, runOn, runOf}
 
--- The run by its own rule, with no count: everything else cites this.
+-- The run by its own rule, with no count.
 abbrev pub RunEquation : Type 0
 RunEquation =
-    (st : State) (m : List ℕ) (l : Lines) (budget steps cycles : ℕ) →
-    tooLong m ≡ false →
-    runOn st m l budget steps cycles
-    ≡ cond (goesOn st m l budget cycles)
-    (runOn (stepOf st m l .state) (stepOf st m l .memory) l budget (steps + 1) (cycles + cyclesOf (stepOf st m l .answer)))
-    (finish st m l steps cycles)
+    (m : Machine) (b : Bus) (l : Lines) (budget steps cycles : ℕ) →
+    admissionOf b ≡ Admitted →
+    runOn m b l budget steps cycles
+    ≡ cond (goesOn m b l budget cycles)
+    (runOn (stepOf m b l .machine) (stepOf m b l .bus) l budget (steps + 1) (cycles + cyclesOf (stepOf m b l .answer)))
+    (finish m b l steps cycles)
 
 -- fixed lines, n times
 unfoldable pub repeated : ℕ → Lines → List Lines
 repeated zero l = []
 repeated (suc n) l = l ∷ repeated n l
 
--- "state and sum equal the rows' steps": the run's steps are the length of the list of its steps, its cycles the sum of their
--- answers, its state and memory the last ones.
-pub record Made (st : State) (m : List ℕ) (l : Lines) (steps cycles : ℕ) (o : RunOutcome) : Type 0 where
-  pub count : steps ≡ length (stepsFrom st m (repeated steps l))
-  pub sum : cycles ≡ cyclesOfAll (stepsFrom st m (repeated steps l))
-  pub state : o .state ≡ lastState st (stepsFrom st m (repeated steps l))
-  pub memory : o .memory ≡ lastMemory m (stepsFrom st m (repeated steps l))
+-- "state and sum equal the rows' steps": as many steps as the run names, none of them refused, give the sum that it names, and the last leaves
+-- its machine and bus; the sum fixes their number, by `SumFixesSteps`.
+pub record Made (m : Machine) (b : Bus) (l : Lines) (o : RunOutcome) (x : RunDone) : Type 0 where
+  pub unrefused : Unrefused (stepsFrom m b (repeated (x .steps) l))
+  pub sum : x .cycles ≡ cyclesOfAll (stepsFrom m b (repeated (x .steps) l))
+  pub machine : o .machine ≡ lastMachine m (stepsFrom m b (repeated (x .steps) l))
+  pub bus : o .bus ≡ lastBus b (stepsFrom m b (repeated (x .steps) l))
+
+abbrev pub SumFixesSteps : Type 0
+SumFixesSteps =
+    (m : Machine) (b : Bus) (l : Lines) (n k : ℕ) →
+    Unrefused (stepsFrom m b (repeated n l)) →
+    Unrefused (stepsFrom m b (repeated k l)) →
+    cyclesOfAll (stepsFrom m b (repeated n l)) ≡ cyclesOfAll (stepsFrom m b (repeated k l)) →
+    n ≡ k
 
 abbrev pub MakesItsSteps : Type 0
 MakesItsSteps =
-    (st : State) (m : List ℕ) (l : Lines) (budget steps cycles : ℕ) (cause : Cause) →
-    runOf st m l budget .answer ≡ ended steps cycles cause →
-    Made st m l steps cycles (runOf st m l budget)
+    (m : Machine) (b : Bus) (l : Lines) (budget : ℕ) →
+    UnlessRefused (Made m b l (runOf m b l budget)) (runOf m b l budget .answer)
 
 -- "Cycles stay below budget + 12."
 abbrev pub CyclesBelow : Type 0
 CyclesBelow =
-    (st : State) (m : List ℕ) (l : Lines) (budget steps cycles : ℕ) (cause : Cause) →
-    runOf st m l budget .answer ≡ ended steps cycles cause →
-    cycles < budget + 12
+    (m : Machine) (b : Bus) (l : Lines) (budget : ℕ) →
+    UnlessRefused (λ x. x .cycles < budget + 12) (runOf m b l budget .answer)
 
--- the cause is unspecified exactly if the machine is not halted and the step from there is refused by 3, and halted exactly if
--- the machine is halted
-pub record CauseSays (o : RunOutcome) (l : Lines) (cause : Cause) : Type 0 where
-  pub halted : cause ≡ Halted ↔ o .state .status .halted ≡ true
-  pub unspecified : cause ≡ Unspecified ↔ ((o .state .status .halted ≡ false) × (isUnspecified (stepOf (o .state) (o .memory) l .answer) ≡ true))
+-- the cause is halted exactly if the machine is halted, and unspecified exactly if it is not and the step from there is refused by 3
+pub record CauseSays (l : Lines) (o : RunOutcome) (x : RunDone) : Type 0 where
+  pub halted : x .cause ≡ causeNumber Halted ↔ o .machine .running .halted ≡ true
+  pub unspecified :
+      x .cause ≡ causeNumber Unspecified
+      ↔ ((o .machine .running .halted ≡ false) × (meetsUnspecified (stepOf (o .machine) (o .bus) l .answer) ≡ true))
 
 abbrev pub CauseIsRight : Type 0
 CauseIsRight =
-    (st : State) (m : List ℕ) (l : Lines) (budget steps cycles : ℕ) (cause : Cause) →
-    runOf st m l budget .answer ≡ ended steps cycles cause →
-    CauseSays (runOf st m l budget) l cause
+    (m : Machine) (b : Bus) (l : Lines) (budget : ℕ) →
+    UnlessRefused (CauseSays l (runOf m b l budget)) (runOf m b l budget .answer)
 
 -- a run that its budget ended has spent it
 abbrev pub BudgetIsSpent : Type 0
 BudgetIsSpent =
-    (st : State) (m : List ℕ) (l : Lines) (budget steps cycles : ℕ) →
-    runOf st m l budget .answer ≡ ended steps cycles Budget →
-    budget ≤ cycles
+    (m : Machine) (b : Bus) (l : Lines) (budget : ℕ) →
+    UnlessRefused (λ x. x .cause ≡ causeNumber Budget → budget ≤ x .cycles) (runOf m b l budget .answer)
 
 -- a run of budget 0 changes nothing
 abbrev pub NoBudgetNoChange : Type 0
 NoBudgetNoChange =
-    (st : State) (m : List ℕ) (l : Lines) → (runOf st m l 0 .state ≡ st) × (runOf st m l 0 .memory ≡ m)
+    (m : Machine) (b : Bus) (l : Lines) → (runOf m b l 0 .machine ≡ m) × (runOf m b l 0 .bus ≡ b)

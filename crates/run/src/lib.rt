@@ -1,15 +1,19 @@
 // The run: steps with fixed lines, until a budget of cycles is spent, the machine halts, or the next step is refused for an
 // unspecified form.
 ghost use mathlib.Core.Path.{_≡_};
-ghost use Prim.Native.Nat.{_≤_};
+ghost use Prim.Native.Nat.{_+_, _<_, _≤_};
+ghost use Rattle.memory.specs.Bus.{busOf};
+ghost use Rattle.cpu.specs.Machine.{machineOf};
 ghost use Rattle.cpu.specs.Step.{outcome, stepOf};
-ghost use Rattle.run.specs.Run.{causeOf, refusedRun, runOutcome, runOf};
+ghost use Rattle.run.specs.declared.RunAnswer.the-variants.{Refused};
+ghost use Rattle.run.specs.Run.{causeOf, runOutcome, runOf};
 ghost use Rattle.run.specs.inner.Loop.{stoppedOf, loopEnd, loopOf};
 use cpu::Lines;
 use cpu::State;
 use cpu::Status;
 use cpu::StepAnswer;
 use cpu::Stepped;
+use memory::Admission;
 use refusal::Refusal;
 
 // What ended a run.
@@ -22,7 +26,11 @@ pub enum Cause {
 // Steps, cycles and the cause of the end, or why the run was refused.
 pub enum RunAnswer {
     Refused(Refusal),
-    Ended(u32, u32, Cause),
+    Ended {
+        steps: u32,
+        cycles: u32,
+        cause: Cause,
+    },
 }
 
 pub struct Ran {
@@ -30,15 +38,16 @@ pub struct Ran {
     pub answer: RunAnswer,
 }
 
-// Where the loop stopped: the steps made and their cycles, and the answer of the last step.
+// Where the loop stopped: the steps that it made and the sum of their cycles, and what the last step tried left. Before the first that is
+// the state given and a grant of 0 cycles.
 struct Stop {
     state: State,
     steps: u32,
-    cycles: u32,
+    cycles: u64,
     answer: StepAnswer,
 }
 
-fn stopped(last: Stepped, steps: u32, cycles: u32) -> Stop
+fn stopped(last: Stepped, steps: u32, cycles: u64) -> Stop
     ensures { λ r. ⌜ r ≡ stoppedOf last steps cycles ⌝ }
 {
     let state = last.state;
@@ -77,27 +86,29 @@ fn copied(state: State) -> State
     }
 }
 
-// Steps while the sum of their cycles is below the budget and none is refused. It is the only caller of the processor's step, so
-// that the compiler makes one function of both.
+// Steps on an admitted memory while the sum of their cycles is below the budget and none is refused. In the library this is the only
+// caller of the processor's step, so that the compiler makes one function of both.
 fn make_steps(state: State, mem: &mut [u16], lines: Lines, budget: u32) -> Stop
     requires { ⌜ budget ≤ 1000000 ⌝ }
-    ensures { λ r. ⌜ loopEnd r (now (mem .exit)) ≡ loopOf state (now (mem .entry)) lines budget ⌝ }
+    ensures ends { λ r. ⌜ loopEnd r (now (mem .exit)) ≡ loopOf (machineOf state) (busOf (now (mem .entry))) lines budget ⌝ }
+    ensures near { λ r. ⌜ r .cycles < budget + 12 ⌝ }
 {
     let mut last = Stepped {
         state: copied(state),
-        answer: StepAnswer::Granted(0),
+        answer: StepAnswer::Granted { cycles: 0 },
     };
     let mut steps: u32 = 0;
-    let mut cycles: u32 = 0;
-    while cycles < budget {
+    let mut cycles: u64 = 0;
+    let limit = budget as u64;
+    while cycles < limit {
         let from = last.state;
-        last = cpu::step(from, mem, lines);
+        last = cpu::admitted_step(from, mem, lines);
         let answer = last.answer;
         let spent = cpu::cycles(answer);
         if spent == 0 {
             return stopped(last, steps, cycles);
         }
-        cycles = cycles + spent as u32;
+        cycles = cycles + spent;
         steps = steps + 1;
     }
     stopped(last, steps, cycles)
@@ -105,8 +116,15 @@ fn make_steps(state: State, mem: &mut [u16], lines: Lines, budget: u32) -> Stop
 
 // One step, by the run's loop: every step costs a cycle, so a budget of 1 makes one.
 pub fn one_step(state: State, mem: &mut [u16], lines: Lines) -> Stepped
-    ensures { λ r. ⌜ outcome r (now (mem .exit)) ≡ stepOf state (now (mem .entry)) lines ⌝ }
+    ensures { λ r. ⌜ outcome r (now (mem .exit)) ≡ stepOf (machineOf state) (busOf (now (mem .entry))) lines ⌝ }
 {
+    let admission = memory::admit(mem);
+    if let Admission::Barred(refusal) = admission {
+        return Stepped {
+            state: state,
+            answer: StepAnswer::Refused(refusal),
+        };
+    }
     let stopped = make_steps(state, mem, lines, 1);
     let after = stopped.state;
     let answer = stopped.answer;
@@ -118,7 +136,7 @@ pub fn one_step(state: State, mem: &mut [u16], lines: Lines) -> Stepped
 
 // Why no more steps are made: halted, then unspecified, then budget.
 fn ended_by(state: State, mem: &[u16], lines: Lines) -> Cause
-    ensures { λ r. ⌜ r ≡ causeOf state (now (mem .entry)) lines ⌝ }
+    ensures { λ r. ⌜ r ≡ causeOf (machineOf state) (busOf (now (mem .entry))) lines ⌝ }
 {
     let status = state.status;
     let halted = status.halted;
@@ -134,7 +152,7 @@ fn ended_by(state: State, mem: &[u16], lines: Lines) -> Cause
 }
 
 fn refused(state: State, refusal: Refusal) -> Ran
-    ensures { λ r. ⌜ r ≡ refusedRun state refusal ⌝ }
+    ensures { λ r. ⌜ (r .state ≡ state) × (r .answer ≡ Refused refusal) ⌝ }
 {
     Ran {
         state: state,
@@ -144,11 +162,11 @@ fn refused(state: State, refusal: Refusal) -> Ran
 
 // Runs for a budget of 0 to 1,000,000 cycles.
 pub fn run(state: State, mem: &mut [u16], lines: Lines, budget: u32) -> Ran
-    ensures { λ r. ⌜ runOutcome r (now (mem .exit)) ≡ runOf state (now (mem .entry)) lines budget ⌝ }
+    ensures { λ r. ⌜ runOutcome r (now (mem .exit)) ≡ runOf (machineOf state) (busOf (now (mem .entry))) lines budget ⌝ }
 {
-    let long = memory::is_too_long(mem);
-    if long {
-        return refused(state, Refusal::MemoryTooLong);
+    let admission = memory::admit(mem);
+    if let Admission::Barred(refusal) = admission {
+        return refused(state, refusal);
     }
     if BUDGET_LIMIT < budget {
         return refused(state, Refusal::BudgetTooHigh);
@@ -160,8 +178,13 @@ pub fn run(state: State, mem: &mut [u16], lines: Lines, budget: u32) -> Ran
     }
     let stopped = make_steps(state, mem, lines, budget);
     let after = stopped.state;
+    let cycles = stopped.cycles as u32;
     Ran {
         state: after,
-        answer: RunAnswer::Ended(stopped.steps, stopped.cycles, ended_by(after, mem, lines)),
+        answer: RunAnswer::Ended {
+            steps: stopped.steps,
+            cycles: cycles,
+            cause: ended_by(after, mem, lines),
+        },
     }
 }
