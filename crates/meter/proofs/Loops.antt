@@ -1,19 +1,19 @@
 -- The invariants of the meter's loops, and what a turn of each keeps. Each is a record, so that a proof names none of its arguments.
 use Prim.Native.Nat.{ℕ, suc, _+_, _-_, _<_, _≤_}
 use mathlib.Core.Path.{_≡_, refl, ap, sym, _∙_}
-use mathlib.Core.Bool.{false}
-use mathlib.Core.List.{List}
 use native.Mathlib.Omega.{arith}
-use Rattle.memory.specs.Memory.{peekOf, tooLong}
+use Rattle.refusal.specs.Report.{answered}
+use Rattle.memory.specs.declared.Admission.the-variants.{Admitted}
+use Rattle.memory.specs.Bus.{Bus, readOf, admissionOf}
 use Rattle.meter.specs.declared.Walked.{Walked}
 use Rattle.meter.specs.declared.walk.Place.{Place}
 use Rattle.meter.specs.declared.walk.Next.{Next}
-use Rattle.meter.specs.declared.walk.Next.the-variants.{Answer as Answers, Place as Goes}
-use Rattle.meter.specs.Answer.{Answer, answered, Longest, noWait, Lowest, noOver, Named, answerOf}
-use Rattle.meter.specs.Walk.{limitOf, startAt, done, on, turned, turnAt, follow, walkOn, walkFrom}
+use Rattle.meter.specs.declared.walk.Next.the-variants.{Ends, GoesOn}
+use Rattle.meter.specs.Answer.{Answer, Longest, noWait, Lowest, noOver, Named, answerOf}
+use Rattle.meter.specs.Walk.{limitOf, startAt, ends, goesOn, turned, turnAt, afterTurn, walkOn, walkFrom}
 use Rattle.meter.specs.Scan.{longerOf, lowerOf, longestBy, lowestBy}
 use Rattle.meter.specs.Meter.{waitOf, namedOf, regionOf}
-use Rattle.meter.proofs.WalkLaws.{turn-adds, walk-law, wait-answers}
+use Rattle.meter.proofs.WalkLaws.{turn-goes, turn-adds, walk-equation, wait-answers}
 use Rattle.meter.proofs.ScanLaws.{longest-suc, lowest-suc, region-answers}
 
 -- the walk from a start, at a place of it
@@ -27,26 +27,30 @@ unfolding walkFrom startAt
 walking e h = rw e (record { same = refl; low = omega arith; small = h })
 
 module _ {read : ℕ → ℕ} {limit start : ℕ} {p : Place} {t : Next} (k : Walking read limit start p) (e : turned t ≡ turnAt read limit p) where
-  pub walking-on : {q : Place} → t ≡ Goes q → Walking read limit start q
+  pub walking-on : {q : Place} → t ≡ GoesOn q → Walking read limit start q
   walking-on {q} g =
-      let h : turnAt read limit p ≡ on q = sym e ∙ ap turned g in
+      let h : turnAt read limit p ≡ goesOn q = sym e ∙ ap turned g in
       record {
-        same = sym (walk-law read limit p ∙ ap (follow (walkOn read limit)) h) ∙ k .same;
-        low = turn-adds read limit p h .room;
+        same = sym (walk-equation read limit p ∙ ap (afterTurn (λ a. a) (walkOn read limit)) h) ∙ k .same;
+        low = turn-goes read limit p h .room;
         small = k .small;
       }
 
-  pub walking-less : {q : Place} → t ≡ Goes q → limit - q .sum < limit - p .sum
-  walking-less g = let a = turn-adds read limit p (sym e ∙ ap turned g) in omega arith
+  pub walking-less : {q : Place} → t ≡ GoesOn q → limit - q .sum < limit - p .sum
+  walking-less g =
+      let h = sym e ∙ ap turned g in
+      let r = turn-goes read limit p h in
+      let a = turn-adds read limit p h in
+      omega arith
 
-  pub walking-done : {w : Walked} → t ≡ Answers w → answerOf w ≡ walkFrom read limit start
-  walking-done {w} g =
-      let h : turnAt read limit p ≡ done (answerOf w) = sym e ∙ ap turned g in
-      sym (walk-law read limit p ∙ ap (follow (walkOn read limit)) h) ∙ k .same
+  pub walking-ends : {w : Walked} → t ≡ Ends w → answerOf w ≡ walkFrom read limit start
+  walking-ends {w} g =
+      let h : turnAt read limit p ≡ ends (answerOf w) = sym e ∙ ap turned g in
+      sym (walk-equation read limit p ∙ ap (afterTurn (λ a. a) (walkOn read limit)) h) ∙ k .same
 
 -- the end of the walk of the meter for an address
-pub wait-end : {x : Answer} (m : List ℕ) (a limit l : ℕ) → x ≡ walkFrom (peekOf m) l a → l ≡ limitOf limit → tooLong m ≡ false → limit ≤ 4096 → answered x ≡ waitOf m a limit
-wait-end m a limit l e r p q = ap answered (e ∙ ap (λ (n : ℕ). walkFrom (peekOf m) n a) r) ∙ sym (wait-answers m a limit p q)
+pub wait-end : {x : Answer} (b : Bus) (a limit l : ℕ) → x ≡ walkFrom (readOf b) l a → l ≡ limitOf limit → admissionOf b ≡ Admitted → limit ≤ 4096 → answered x ≡ waitOf b a limit
+wait-end b a limit l e r p q = ap answered (e ∙ ap (λ (n : ℕ). walkFrom (readOf b) n a) r) ∙ sym (wait-answers b a limit p q)
 
 -- the scan of a region, at a start of it: what the starts before it name
 pub record Scanning (answers : ℕ → Answer) (first last start : ℕ) (l : Longest) (o : Lowest) : Type 0 where
@@ -81,6 +85,6 @@ module _ {answers : ℕ → Answer} {first last start : ℕ} {l l′ : Longest} 
       rw (n, longest-more, lowest-more)
 
 -- the end of the scan of the meter for a region
-pub region-end : {x : Named} (m : List ℕ) (first last limit l : ℕ) → x ≡ namedOf (walkFrom (peekOf m) l) first last → l ≡ limitOf limit → tooLong m ≡ false → first ≤ last → limit ≤ 4096 → answered x ≡ regionOf m first last limit
-region-end m first last limit l e r p q s =
-    ap answered (e ∙ ap (λ (n : ℕ). namedOf (walkFrom (peekOf m) n) first last) r) ∙ sym (region-answers m first last limit p q s)
+pub region-end : {x : Named} (b : Bus) (first last limit l : ℕ) → x ≡ namedOf (walkFrom (readOf b) l) first last → l ≡ limitOf limit → admissionOf b ≡ Admitted → first ≤ last → limit ≤ 4096 → answered x ≡ regionOf b first last limit
+region-end b first last limit l e r p q s =
+    ap answered (e ∙ ap (λ (n : ℕ). namedOf (walkFrom (readOf b) n) first last) r) ∙ sym (region-answers b first last limit p q s)

@@ -1,20 +1,22 @@
--- Laws of the scan of a region.
+-- Laws of the scan of a region: what it names is what the region's law says.
 use Prim.Native.Nat.{ℕ, zero, suc, _+_, _-_, _<_, _≤_}
 use mathlib.Core.Path.{_≡_, refl, ap, sym, _∙_}
 use mathlib.Core.Logic.{_⊎_, inl, inr, ⊎-elim}
 use mathlib.Core.Bool.{Bool, true, false, cond}
-use mathlib.Core.List.{List}
 use native.Mathlib.Nat.{le-of-eq}
 use native.Mathlib.Decide.{decLt}
 use native.Mathlib.Omega.{arith}
 use lib.Dec.{ltb}
 use borrow.Author.Tests.{ltb-true, ltb-false, le-ltb}
-use Rattle.word.proofs.Choice.{cond-false}
-use Rattle.memory.specs.Memory.{tooLong}
-use Rattle.meter.specs.Answer.{Answer, wait, over, halts, unspecified, answered, Longest, noWait, longest, Lowest, noOver, overAt}
+use Rattle.refusal.specs.Report.{Report, answered, UnlessRefused}
+use Rattle.word.proofs.Choice.{cond-false, cond-both, cond-either}
+use Rattle.memory.specs.declared.Admission.the-variants.{Admitted}
+use Rattle.memory.specs.Bus.{Bus, admissionOf}
+use Rattle.memory.proofs.BusLaws.{unless-both, unless-in}
+use Rattle.meter.specs.Answer.{Answer, wait, over, halts, unspecified, Longest, noWait, longest, Lowest, noOver, overAt, Named}
 use Rattle.meter.specs.Scan.{longerThan, longerOf, lowerThan, lowerOf, longestBy, lowestBy}
 use Rattle.meter.specs.Meter.{answerFrom, namedOf, regionOf}
-use Rattle.meter.specs.Demand.{LongestIs, LowestIs, NamedIs}
+use Rattle.meter.specs.Laws.{LongestIs, LowestIs, NamedIs, NamesItsStarts}
 
 -- one start more
 module _ (answers : ℕ → Answer) (first start : ℕ) (h : first ≤ start) where
@@ -27,10 +29,9 @@ module _ (answers : ℕ → Answer) (first start : ℕ) (h : first ≤ start) wh
   lowest-suc = let e : first + (start - first) ≡ start = omega arith in rw e
 
 -- a region that is not refused
-pub region-answers : (m : List ℕ) (first last limit : ℕ) → tooLong m ≡ false → first ≤ last → limit ≤ 4096 → regionOf m first last limit ≡ answered (namedOf (answerFrom m limit) first last)
+pub region-answers : (b : Bus) (first last limit : ℕ) → admissionOf b ≡ Admitted → first ≤ last → limit ≤ 4096 → regionOf b first last limit ≡ answered (namedOf (answerFrom b limit) first last)
 unfolding regionOf
-region-answers m first last limit p q r =
-    cond-false _ _ p ∙ cond-false _ _ (le-ltb _ _ q) ∙ cond-false _ _ (le-ltb _ _ r)
+region-answers b first last limit p q r = unless-in _ _ p ∙ cond-false _ _ (le-ltb _ _ q) ∙ cond-false _ _ (le-ltb _ _ r)
 
 -- the last start, or one before it
 last-or-before : (s e : ℕ) → s < suc e → (s < e) ⊎ (s ≡ e)
@@ -147,8 +148,17 @@ lowest-law (suc n) answers first =
     rw e (lowest-next answers first (first + n) (omega arith) (lowestBy n answers first) (answers (first + n)) refl (lowest-law n answers first))
 
 -- what the starts from first to last name is what it should be
-pub named-law : (answers : ℕ → Answer) (first last : ℕ) → first ≤ last → NamedIs answers first (suc last) (namedOf answers first last)
+named-law : (answers : ℕ → Answer) (first last : ℕ) → first ≤ last → NamedIs answers first (suc last) (namedOf answers first last)
 unfolding namedOf
 named-law answers first last h =
     let j : first + (suc last - first) ≡ suc last = omega arith in
     record { longest-is = rw j at (longest-law (suc last - first) answers first); lowest-is = rw j at (lowest-law (suc last - first) answers first) }
+
+-- .. and unless it refuses, the meter for a region names them
+pub names-its-starts : NamesItsStarts
+unfolding regionOf
+names-its-starts b first last limit =
+    let P : Report Named → Type 0 = UnlessRefused (NamedIs (answerFrom b limit) first (suc last)) in
+    unless-both P (admissionOf b) (λ r. tt)
+    (cond-either P (ltb last first) (λ e. tt)
+    (λ e. cond-both P (ltb 4096 limit) tt (named-law (answerFrom b limit) first last (ltb-false last first e))))

@@ -1,7 +1,7 @@
 -- What the wait meter answers, in document 01's terms and numbers.
 use Prim.Native.Nat.{ℕ}
-use mathlib.Core.Path.{_≡_}
 use Rattle.refusal.specs.Refusals.{refusalNumber}
+use Rattle.refusal.specs.Report.{Report, refused, answered}
 use Rattle.meter.specs.declared.Walked.{Walked}
 use Rattle.meter.specs.declared.Walked.the-variants.{Wait, Over, Halts, Unspecified}
 use Rattle.meter.specs.declared.WaitAnswer.{WaitAnswer}
@@ -24,11 +24,6 @@ pub data Answer : Type 0 where
   -- "unspecified answers Unspecified with its address"
   unspecified : ℕ → Answer
 
--- what a call reports: a refusal's number, or its answer
-pub data Reported (A : Type 0) : Type 0 where
-  refused : ℕ → Reported A
-  answered : A → Reported A
-
 -- "the longest Wait and its lowest start", "or that there is none"
 pub data Longest : Type 0 where
   noWait : Longest
@@ -50,7 +45,7 @@ answerOf Over = over
 answerOf Halts = halts
 answerOf (Unspecified a) = unspecified a
 
-abbrev pub waitReport : WaitAnswer → Reported Answer
+abbrev pub waitReport : WaitAnswer → Report Answer
 waitReport (Refused r) = refused (refusalNumber r)
 waitReport (Answered w) = answered (answerOf w)
 
@@ -62,11 +57,6 @@ abbrev pub lowestOf : LowestOver → Lowest
 lowestOf NoOver = noOver
 lowestOf (At start) = overAt start
 
-abbrev pub regionReport : RegionAnswer → Reported Named
+abbrev pub regionReport : RegionAnswer → Report Named
 regionReport (Rejected r) = refused (refusalNumber r)
 regionReport (Found l o) = answered (record { longest-wait = longestOf l; lowest-over = lowestOf o })
-
--- no two answers are reported alike
-pub record ReportsApart : Type 0 where
-  pub waits : (a b : WaitAnswer) → waitReport a ≡ waitReport b → a ≡ b
-  pub regions : (a b : RegionAnswer) → regionReport a ≡ regionReport b → a ≡ b

@@ -1,9 +1,7 @@
--- What the wait meter promises. Read Walk and Meter first, then Demand, which cites the rest.
+-- What the wait meter promises. Read Walk and Meter first, then Laws, which says what they come to.
 pub mod Answer
 pub mod Walk
 pub mod Scan
 pub mod Meter
-pub mod Grants
 pub mod Reads
-pub mod Demand
-pub mod Instances
+pub mod Laws

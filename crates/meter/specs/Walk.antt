@@ -10,7 +10,7 @@ use Rattle.decode.specs.Decode.{decodeAt}
 use Rattle.decode.specs.Rows.{rowOf}
 use Rattle.meter.specs.declared.walk.Place.{Place}
 use Rattle.meter.specs.declared.walk.Next.{Next}
-use Rattle.meter.specs.declared.walk.Next.the-variants.{Answer as Answers, Place as Goes}
+use Rattle.meter.specs.declared.walk.Next.the-variants.{Ends, GoesOn}
 use Rattle.meter.specs.Answer.{Answer, wait, over, halts, unspecified, answerOf}
 
 -- "Limit 1 to 4,096 cycles; 0 means 57"
@@ -39,36 +39,37 @@ placeAfter p row =
 
 -- what one instruction of the walk leads to: its answer, or a place to go on from
 pub data Turn : Type 0 where
-  done : Answer → Turn
-  on : Place → Turn
+  ends : Answer → Turn
+  goesOn : Place → Turn
 
--- "else add its cost; sum above limit answers Over; HLT answers Halts; a heard row answers Wait with the sum; else go on"
+-- "else add its cost; sum above limit answers Over; HLT answers Halts; a heard row answers Wait with the sum; else go on": heard is
+-- interruptible
 unfoldable pub rowTurn : ℕ → Place → Row → Turn
 rowTurn limit p row =
-    cond (ltb limit (p .sum + row .cycles)) (done over)
-    (cond (row .halts) (done halts) (cond (row .heard) (done (wait (p .sum + row .cycles))) (on (placeAfter p row))))
+    cond (ltb limit (p .sum + row .cycles)) (ends over)
+    (cond (row .halts) (ends halts) (cond (row .interruptible) (ends (wait (p .sum + row .cycles))) (goesOn (placeAfter p row))))
 
 -- "At each: unspecified answers Unspecified with its address"
 abbrev pub decodedTurn : ℕ → Place → Decoded → Turn
-decodedTurn limit p Unspecified = done (unspecified (p .address))
+decodedTurn limit p Unspecified = ends (unspecified (p .address))
 decodedTurn limit p (Known i) = rowTurn limit p (rowOf i (p .double))
 
 -- one turn of the walk; a row's cycles are those of a branch taken, and NOPP's 7
 unfoldable pub turnAt : (ℕ → ℕ) → ℕ → Place → Turn
 turnAt read limit p = decodedTurn limit p (decodeAt read (p .address) (p .double))
 
--- what a turn leads to, where `rest` answers from a place on
-abbrev pub follow : (Place → Answer) → Turn → Answer
-follow rest (done a) = a
-follow rest (on p) = rest p
+-- what a turn comes to: `stop` of its answer, or `onward` of the place to go on from
+abbrev pub afterTurn : {A : Type 0} → (Answer → A) → (Place → A) → Turn → A
+afterTurn stop onward (ends a) = stop a
+afterTurn stop onward (goesOn p) = onward p
 
 -- the walk by at most n turns
 unfoldable pub walkBy : ℕ → (ℕ → ℕ) → ℕ → Place → Answer
 walkBy zero read limit p = over
-walkBy (suc n) read limit p = follow (walkBy n read limit) (turnAt read limit p)
+walkBy (suc n) read limit p = afterTurn (λ a. a) (walkBy n read limit) (turnAt read limit p)
 
--- the walk from a place on. Each turn that goes on adds a cycle or more, so it answers within this many: `walks` of `Demand`
--- is its equation with no count.
+-- the walk from a place on. Each turn that goes on adds a cycle or more, so it answers within this many: `WalkEquation` of `Laws`
+-- has no count.
 unfoldable pub walkOn : (ℕ → ℕ) → ℕ → Place → Answer
 walkOn read limit p = walkBy (suc limit) read limit p
 
@@ -78,5 +79,5 @@ walkFrom read limit a = walkOn read limit (startAt a)
 
 -- what the code's turn stands for
 abbrev pub turned : Next → Turn
-turned (Answers w) = done (answerOf w)
-turned (Goes p) = on p
+turned (Ends w) = ends (answerOf w)
+turned (GoesOn p) = goesOn p

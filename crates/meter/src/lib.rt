@@ -1,8 +1,10 @@
 // The wait meter: after how many cycles a request is heard, from an address and over a region, found by a walk over the code.
 ghost use mathlib.Core.Path.{_≡_};
+ghost use Rattle.memory.specs.Bus.{busOf};
 ghost use Rattle.meter.specs.Answer.{waitReport, regionReport};
 ghost use Rattle.meter.specs.Meter.{waitOf, regionOf};
 use crate::walk::Next;
+use memory::Admission;
 use refusal::Refusal;
 
 mod scan;
@@ -11,13 +13,13 @@ mod walk;
 // What the walk from an address answers.
 pub enum Walked {
     // a request is heard after so many cycles
-    Wait(u16),
+    Wait { cycles: u16 },
     // the cycles are more than the limit
     Over,
     // the walk meets HLT
     Halts,
     // the walk meets an unspecified form, at this address
-    Unspecified(u16),
+    Unspecified { address: u16 },
 }
 
 pub enum WaitAnswer {
@@ -28,27 +30,30 @@ pub enum WaitAnswer {
 // The longest wait of a region and the lowest start that has it.
 pub enum LongestWait {
     NoWait,
-    Cycles(u16, u16),
+    Cycles { cycles: u16, start: u16 },
 }
 
 // The lowest start of a region whose wait is over the limit.
 pub enum LowestOver {
     NoOver,
-    At(u16),
+    At { start: u16 },
 }
 
 pub enum RegionAnswer {
     Refused(Refusal),
-    Found(LongestWait, LowestOver),
+    Found {
+        longest: LongestWait,
+        lowest: LowestOver,
+    },
 }
 
 // The meter for an address.
 pub fn wait(mem: &[u16], address: u16, limit: u16) -> WaitAnswer
-    ensures { λ r. ⌜ waitReport r ≡ waitOf (now (mem .entry)) address limit ⌝ }
+    ensures { λ r. ⌜ waitReport r ≡ waitOf (busOf (now (mem .entry))) address limit ⌝ }
 {
-    let long = memory::is_too_long(mem);
-    if long {
-        return WaitAnswer::Refused(Refusal::MemoryTooLong);
+    let admission = memory::admit(mem);
+    if let Admission::Barred(refusal) = admission {
+        return WaitAnswer::Refused(refusal);
     }
     if walk::HIGHEST_LIMIT < limit {
         return WaitAnswer::Refused(Refusal::LimitTooHigh);
@@ -58,19 +63,19 @@ pub fn wait(mem: &[u16], address: u16, limit: u16) -> WaitAnswer
     loop {
         let next = walk::turn(mem, walk_limit, place);
         match next {
-            Next::Answer(walked) => return WaitAnswer::Answered(walked),
-            Next::Place(after) => place = after,
+            Next::Ends(walked) => return WaitAnswer::Answered(walked),
+            Next::GoesOn(after) => place = after,
         }
     }
 }
 
 // The meter for a region: every address from first to last is a start.
 pub fn region(mem: &[u16], first: u16, last: u16, limit: u16) -> RegionAnswer
-    ensures { λ r. ⌜ regionReport r ≡ regionOf (now (mem .entry)) first last limit ⌝ }
+    ensures { λ r. ⌜ regionReport r ≡ regionOf (busOf (now (mem .entry))) first last limit ⌝ }
 {
-    let long = memory::is_too_long(mem);
-    if long {
-        return RegionAnswer::Refused(Refusal::MemoryTooLong);
+    let admission = memory::admit(mem);
+    if let Admission::Barred(refusal) = admission {
+        return RegionAnswer::Refused(refusal);
     }
     if last < first {
         return RegionAnswer::Refused(Refusal::FirstAboveLast);
@@ -86,12 +91,12 @@ pub fn region(mem: &[u16], first: u16, last: u16, limit: u16) -> RegionAnswer
         let walked = 'walk: loop {
             let next = walk::turn(mem, walk_limit, place);
             match next {
-                Next::Answer(answer) => break 'walk answer,
-                Next::Place(after) => place = after,
+                Next::Ends(answer) => break 'walk answer,
+                Next::GoesOn(after) => place = after,
             }
         };
         longest = scan::longer(longest, walked, start);
         lowest = scan::lower(lowest, walked, start);
     }
-    RegionAnswer::Found(longest, lowest)
+    RegionAnswer::Found { longest, lowest }
 }

@@ -10,13 +10,12 @@ use crate::Walked;
 fn longer_than(longest: LongestWait, cycles: u16, start: u16) -> LongestWait
     ensures { λ r. ⌜ longestOf r ≡ longerThan (longestOf longest) cycles start ⌝ }
 {
+    let found = LongestWait::Cycles { cycles, start };
     match longest {
-        LongestWait::NoWait => LongestWait::Cycles(cycles, start),
-        LongestWait::Cycles(most, at) => {
-            if most < cycles {
-                return LongestWait::Cycles(cycles, start);
-            }
-            LongestWait::Cycles(most, at)
+        LongestWait::NoWait => found,
+        LongestWait::Cycles { cycles: most, .. } => {
+            let longer = most < cycles;
+            if longer { found } else { longest }
         }
     }
 }
@@ -25,10 +24,10 @@ pub(crate) fn longer(longest: LongestWait, walked: Walked, start: u16) -> Longes
     ensures { λ r. ⌜ longestOf r ≡ longerOf (longestOf longest) (answerOf walked) start ⌝ }
 {
     match walked {
-        Walked::Wait(cycles) => longer_than(longest, cycles, start),
+        Walked::Wait { cycles, .. } => longer_than(longest, cycles, start),
         Walked::Over => longest,
         Walked::Halts => longest,
-        Walked::Unspecified(_) => longest,
+        Walked::Unspecified { .. } => longest,
     }
 }
 
@@ -37,8 +36,8 @@ fn lower_than(lowest: LowestOver, start: u16) -> LowestOver
     ensures { λ r. ⌜ lowestOf r ≡ lowerThan (lowestOf lowest) start ⌝ }
 {
     match lowest {
-        LowestOver::NoOver => LowestOver::At(start),
-        LowestOver::At(at) => LowestOver::At(at),
+        LowestOver::NoOver => LowestOver::At { start },
+        LowestOver::At { .. } => lowest,
     }
 }
 
@@ -46,9 +45,9 @@ pub(crate) fn lower(lowest: LowestOver, walked: Walked, start: u16) -> LowestOve
     ensures { λ r. ⌜ lowestOf r ≡ lowerOf (lowestOf lowest) (answerOf walked) start ⌝ }
 {
     match walked {
-        Walked::Wait(_) => lowest,
+        Walked::Wait { .. } => lowest,
         Walked::Over => lower_than(lowest, start),
         Walked::Halts => lowest,
-        Walked::Unspecified(_) => lowest,
+        Walked::Unspecified { .. } => lowest,
     }
 }

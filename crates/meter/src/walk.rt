@@ -1,7 +1,7 @@
 // The walk over the code: one turn of it is one instruction. The meters for an address and for a region share it.
 ghost use mathlib.Core.Path.{_≡_};
 ghost use Prim.Native.Nat.{_≤_};
-ghost use Rattle.memory.specs.Memory.{peekOf};
+ghost use Rattle.memory.specs.Bus.{busOf, readOf};
 ghost use Rattle.meter.specs.Walk.{startAt, limitOf, turned, turnAt};
 use crate::Walked;
 use decode::Decoded;
@@ -12,8 +12,8 @@ pub(crate) const HIGHEST_LIMIT: u16 = 4096;
 
 const DEFAULT_LIMIT: u16 = 57;
 
-// Where the walk stands: before the instruction at an address, with D and the cycles so far.
-pub(crate) struct Place {
+// Where the walk stands: before the instruction at an address, with D and the cycles so far. (Public, since `guarantees` names it.)
+pub struct Place {
     pub address: u16,
     pub double: bool,
     pub sum: u16,
@@ -21,8 +21,8 @@ pub(crate) struct Place {
 
 // What one instruction leads to: the walk's answer, or the place after it.
 pub(crate) enum Next {
-    Answer(Walked),
-    Place(Place),
+    Ends(Walked),
+    GoesOn(Place),
 }
 
 // The limit that is walked with.
@@ -37,7 +37,7 @@ pub(crate) fn start_at(address: u16) -> Place
     ensures { λ r. ⌜ r ≡ startAt address ⌝ }
 {
     Place {
-        address: address,
+        address,
         double: false,
         sum: 0,
     }
@@ -46,26 +46,28 @@ pub(crate) fn start_at(address: u16) -> Place
 // One instruction of the walk.
 pub(crate) fn turn(mem: &[u16], limit: u16, place: Place) -> Next
     requires { ⌜ (place .sum ≤ limit) × (limit ≤ 4096) ⌝ }
-    ensures { λ r. ⌜ turned r ≡ turnAt (peekOf (now (mem .entry))) limit place ⌝ }
+    ensures { λ r. ⌜ turned r ≡ turnAt (readOf (busOf (now (mem .entry)))) limit place ⌝ }
 {
     let decoded = decode::decode_at(mem, place.address, place.double);
     let Decoded::Known(instr) = decoded else {
-        return Next::Answer(Walked::Unspecified(place.address));
+        return Next::Ends(Walked::Unspecified {
+            address: place.address,
+        });
     };
     let row = rows::row_of(instr, place.double);
     let sum = place.sum + row.cycles as u16;
     if limit < sum {
-        return Next::Answer(Walked::Over);
+        return Next::Ends(Walked::Over);
     }
     if row.halts {
-        return Next::Answer(Walked::Halts);
+        return Next::Ends(Walked::Halts);
     }
-    if row.heard {
-        return Next::Answer(Walked::Wait(sum));
+    if row.interruptible {
+        return Next::Ends(Walked::Wait { cycles: sum });
     }
-    Next::Place(Place {
-        address: word::wrapping_add(place.address, row.words as u16),
+    Next::GoesOn(Place {
+        address: word::wrapping_add(place.address, row.words),
         double: row.double,
-        sum: sum,
+        sum,
     })
 }

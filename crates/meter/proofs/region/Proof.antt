@@ -4,45 +4,54 @@ use mathlib.Core.Path.{sym, _∙_}
 use native.Mathlib.Omega.{arith}
 use borrow.Author.Needs.{needs}
 use borrow.Author.Tests.{lt-ltb, le-ltb}
-use Rattle.memory.specs.Memory.{peekOf}
+use Rattle.word.proofs.Choice.{cond-true, cond-false}
+use Rattle.memory.specs.Bus.{busOf, readOf}
+use Rattle.memory.proofs.BusLaws.{unless-in, unless-out}
 use Rattle.meter.specs.Answer.{longestOf, lowestOf}
 use Rattle.meter.specs.Walk.{walkFrom}
 use Rattle.meter.specs.Meter.{regionOf}
 use Rattle.meter.proofs.WalkLaws.{limit-low}
-use Rattle.meter.proofs.Loops.{Walking, walking, walking-on, walking-less, walking-done, Scanning, scanning, scanning-on, scanning-end, region-end}
+use Rattle.meter.proofs.Loops.{Walking, walking, walking-on, walking-less, walking-ends, Scanning, scanning, scanning-on, scanning-end, region-end}
 use Rattle.meter.proofs.region.Statement.{statement}
 use Rattle.meter.proofs.region.Tie as tie
 
 abbrev Inv-walk : tie.InvT-walk
-Inv-walk mem first last limit long walk-limit longest lowest start place₀ place = Walking (peekOf mem) walk-limit start place
+Inv-walk mem first last limit walk-limit longest lowest start place₀ place = Walking (readOf (busOf mem)) walk-limit start place
 
 abbrev μ-walk : tie.MeasureT-walk
-μ-walk mem first last limit long walk-limit longest lowest start place₀ place = walk-limit - place .sum
+μ-walk mem first last limit walk-limit longest lowest start place₀ place = walk-limit - place .sum
 
 abbrev Inv-scan : tie.InvT-scan
-Inv-scan mem first last limit long walk-limit longest₀ lowest₀ start₀ longest lowest start =
-    Scanning (walkFrom (peekOf mem) walk-limit) first last start (longestOf longest) (lowestOf lowest)
+Inv-scan mem first last limit walk-limit longest₀ lowest₀ start₀ longest lowest start =
+    Scanning (walkFrom (readOf (busOf mem)) walk-limit) first last start (longestOf longest) (lowestOf lowest)
 
 abbrev μ-scan : tie.MeasureT-scan
-μ-scan mem first last limit long walk-limit longest₀ lowest₀ start₀ longest lowest start = last - start
+μ-scan mem first last limit walk-limit longest₀ lowest₀ start₀ longest lowest start = last - start
 
 returns : tie.Need-returns Inv-walk μ-walk Inv-scan μ-scan
 unfolding regionOf
-returns c = rw (← c .before .is-too-long .ensures, c .if1 .taken)
+returns c = sym (unless-out _ _ (sym (c .before .before .before .admit .ensures) ∙ c .before .admission .given .1))
 
 returns-2 : tie.Need-returns-2 Inv-walk μ-walk Inv-scan μ-scan
 unfolding regionOf
-returns-2 c = rw (← c .before .before .is-too-long .ensures, c .before .if1 .left, lt-ltb _ _ (c .if2 .taken))
+returns-2 c =
+    let e = c .before in
+    sym (unless-in _ _ (sym (e .before .before .admit .ensures) ∙ e .enum-told .given .1) ∙ cond-true _ _ (lt-ltb _ _ (c .if1 .taken)))
 
 returns-3 : tie.Need-returns-3 Inv-walk μ-walk Inv-scan μ-scan
 unfolding regionOf
-returns-3 c = rw (← c .before .before .before .is-too-long .ensures, c .before .before .if1 .left, le-ltb _ _ (c .before .if2 .left), lt-ltb _ _ (c .if3 .taken))
+returns-3 c =
+    let e = c .before .before in
+    sym
+    (unless-in _ _ (sym (e .before .before .admit .ensures) ∙ e .enum-told .given .1)
+    ∙ cond-false _ _ (le-ltb _ _ (c .before .if1 .left))
+    ∙ cond-true _ _ (lt-ltb _ _ (c .if2 .taken)))
 
 scan-holds : tie.Need-scan-holds Inv-walk μ-walk Inv-scan μ-scan
-scan-holds c = scanning (c .before .before .if2 .left)
+scan-holds c = scanning (c .before .before .if1 .left)
 
 walk-holds : tie.Need-walk-holds Inv-walk μ-walk Inv-scan μ-scan
-walk-holds c = let l = c .before .before .before in walking (c .start-at .ensures) (rw (l .limit-of .ensures) (limit-low _ (l .before .if3 .left)))
+walk-holds c = let l = c .before .before .before in walking (c .start-at .ensures) (rw (l .limit-of .ensures) (limit-low _ (l .before .if2 .left)))
 
 turn-requires : tie.Need-turn-requires Inv-walk μ-walk Inv-scan μ-scan
 turn-requires c κs = (c .walk .inv .low, c .walk .inv .small)
@@ -57,8 +66,8 @@ scan-again : tie.Need-scan-again Inv-walk μ-walk Inv-scan μ-scan
 scan-again c =
     let t = c .before .before .before in
     let w = t .before .before .before .before in
-    scanning-on (w .before .before .before .scan .inv) (walking-done (w .walk .inv) (t .before .before .before .turn .ensures) (t .before .next .given .1)) (c .before .before .longer .ensures)
-    (c .before .lower .ensures) (c .if4 .taken)
+    scanning-on (w .before .before .before .scan .inv) (walking-ends (w .walk .inv) (t .before .before .before .turn .ensures) (t .before .next .given .1)) (c .before .before .longer .ensures)
+    (c .before .lower .ensures) (c .if3 .taken)
 
 returns-4 : tie.Need-returns-4 Inv-walk μ-walk Inv-scan μ-scan
 returns-4 c = absurd (omega arith)
@@ -69,12 +78,13 @@ returns-5 c =
     let w = t .before .before .before .before in
     let s = w .before .before .before in
     let l = s .before in
+    let e = l .before .before .before in
     region-end _ _ _ _ _
-    (scanning-end (s .scan .inv) (walking-done (w .walk .inv) (t .before .before .before .turn .ensures) (t .before .next .given .1)) (c .before .before .longer .ensures) (c .before .lower .ensures) (c .if4 .left))
+    (scanning-end (s .scan .inv) (walking-ends (w .walk .inv) (t .before .before .before .turn .ensures) (t .before .next .given .1)) (c .before .before .longer .ensures) (c .before .lower .ensures) (c .if3 .left))
     (l .limit-of .ensures)
-    (sym (l .before .before .before .before .is-too-long .ensures) ∙ l .before .before .before .if1 .left)
-    (l .before .before .if2 .left)
-    (l .before .if3 .left)
+    (sym (e .before .before .admit .ensures) ∙ e .enum-told .given .1)
+    (l .before .before .if1 .left)
+    (l .before .if2 .left)
 
 pub region-spec : {M : Type 1} → statement M
 region-spec =
@@ -85,7 +95,9 @@ region-spec =
     Inv-scan
     μ-scan
     (λ c κs. search needs)
+    (λ c. search needs)
     returns
+    (λ c. search needs)
     returns-2
     returns-3
     (λ c κs. search needs)

@@ -3,29 +3,33 @@ use Prim.Native.Nat.{_-_}
 use mathlib.Core.Path.{sym, _∙_}
 use borrow.Author.Needs.{needs}
 use borrow.Author.Tests.{lt-ltb}
-use Rattle.memory.specs.Memory.{peekOf}
+use Rattle.word.proofs.Choice.{cond-true}
+use Rattle.memory.specs.Bus.{busOf, readOf}
+use Rattle.memory.proofs.BusLaws.{unless-in, unless-out}
 use Rattle.meter.specs.Meter.{waitOf}
 use Rattle.meter.proofs.WalkLaws.{limit-low}
-use Rattle.meter.proofs.Loops.{Walking, walking, walking-on, walking-less, walking-done, wait-end}
+use Rattle.meter.proofs.Loops.{Walking, walking, walking-on, walking-less, walking-ends, wait-end}
 use Rattle.meter.proofs.wait.Statement.{statement}
 use Rattle.meter.proofs.wait.Tie as tie
 
 abbrev Inv-loop : tie.InvT-loop
-Inv-loop mem address limit long walk-limit place₀ place = Walking (peekOf mem) walk-limit address place
+Inv-loop mem address limit walk-limit place₀ place = Walking (readOf (busOf mem)) walk-limit address place
 
 abbrev μ-loop : tie.MeasureT-loop
-μ-loop mem address limit long walk-limit place₀ place = walk-limit - place .sum
+μ-loop mem address limit walk-limit place₀ place = walk-limit - place .sum
 
 returns : tie.Need-returns Inv-loop μ-loop
 unfolding waitOf
-returns c = rw (← c .before .is-too-long .ensures, c .if1 .taken)
+returns c = sym (unless-out _ _ (sym (c .before .before .before .admit .ensures) ∙ c .before .admission .given .1))
 
 returns-2 : tie.Need-returns-2 Inv-loop μ-loop
 unfolding waitOf
-returns-2 c = rw (← c .before .before .is-too-long .ensures, c .before .if1 .left, lt-ltb _ _ (c .if2 .taken))
+returns-2 c =
+    let e = c .before in
+    sym (unless-in _ _ (sym (e .before .before .admit .ensures) ∙ e .enum-told .given .1) ∙ cond-true _ _ (lt-ltb _ _ (c .if1 .taken)))
 
 loop-holds : tie.Need-loop-holds Inv-loop μ-loop
-loop-holds c = walking (c .start-at .ensures) (rw (c .before .limit-of .ensures) (limit-low _ (c .before .before .if2 .left)))
+loop-holds c = walking (c .start-at .ensures) (rw (c .before .limit-of .ensures) (limit-low _ (c .before .before .if1 .left)))
 
 turn-requires : tie.Need-turn-requires Inv-loop μ-loop
 turn-requires c κs = (c .loop .inv .low, c .loop .inv .small)
@@ -35,9 +39,10 @@ returns-3 c =
     let t = c .before .before .before in
     let w = t .before in
     let l = w .before .before in
-    wait-end _ _ _ _ (walking-done (w .loop .inv) (t .turn .ensures) (c .before .next .given .1)) (l .limit-of .ensures)
-    (sym (l .before .before .before .is-too-long .ensures) ∙ l .before .before .if1 .left)
-    (l .before .if2 .left)
+    let e = l .before .before in
+    wait-end _ _ _ _ (walking-ends (w .loop .inv) (t .turn .ensures) (c .before .next .given .1)) (l .limit-of .ensures)
+    (sym (e .before .before .admit .ensures) ∙ e .enum-told .given .1)
+    (l .before .if1 .left)
 
 loop-less : tie.Need-loop-less Inv-loop μ-loop
 loop-less c = walking-less (c .before .before .before .before .loop .inv) (c .before .before .before .turn .ensures) (c .before .next2 .given .1)
@@ -52,7 +57,9 @@ wait-spec =
     Inv-loop
     μ-loop
     (λ c κs. search needs)
+    (λ c. search needs)
     returns
+    (λ c. search needs)
     returns-2
     (λ c κs. search needs)
     (λ c κs. search needs)

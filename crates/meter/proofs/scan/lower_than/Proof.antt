@@ -10,7 +10,7 @@ returns c = rw (c .enum-told .given .1)
 
 returns-2 : tie.Need-returns-2
 unfolding lowerThan
-returns-2 c = rw (c .before .lowest .given .1)
+returns-2 c = rw (c .enum-told2 .given .1)
 
 pub lower-than-spec : {M : Type 1} → statement M
 lower-than-spec = tie.close (tie.spec (λ c. search needs) (λ c. search needs) returns returns-2)

@@ -1,7 +1,9 @@
 -- `walk::turn` goes by document 01's rules in their order, each a law of the walk's turn.
+use Prim.Native.Nat.{_≤_}
 use mathlib.Core.Path.{_≡_, sym, _∙_}
 use borrow.Author.Needs.{needs}
-use Rattle.memory.specs.Memory.{peekOf}
+use Rattle.memory.specs.Bus.{busOf, readOf}
+use Rattle.decode.proofs.RowLaws.{row-bounds}
 use Rattle.meter.specs.Walk.{placeAfter, rowTurn, turnAt}
 use Rattle.meter.proofs.WalkLaws.{turn-unspecified, turn-row, row-over, row-halts, row-waits, row-goes}
 use Rattle.meter.proofs.walk.turn.Statement.{statement}
@@ -9,15 +11,25 @@ use Rattle.meter.proofs.walk.turn.Tie as tie
 
 -- once the row is known, the turn is the row's
 module _ (c : tie.After-row-of) where
-  by-row : turnAt (peekOf (c .before .before .before .before .before .before .args .mem .now)) (c .before .before .before .before .before .before .args .limit) (c .before .before .before .before .before .before .args .place) ≡ rowTurn (c .before .before .before .before .before .before .args .limit) (c .before .before .before .before .before .before .args .place) (c .row-of .result)
+  by-row : turnAt (readOf (busOf (c .before .before .before .before .before .before .args .mem .now))) (c .before .before .before .before .before .before .args .limit) (c .before .before .before .before .before .before .args .place) ≡ rowTurn (c .before .before .before .before .before .before .args .limit) (c .before .before .before .before .before .before .args .place) (c .row-of .result)
   by-row =
       let a = c .before .before .before .before .before .before .args in
-      turn-row (peekOf (a .mem .now)) (a .limit) (a .place) (sym (c .before .before .before .before .decode-at .ensures) ∙ c .before .before .decoded .given .1) (c .row-of .ensures)
+      turn-row (readOf (busOf (a .mem .now))) (a .limit) (a .place) (sym (c .before .before .before .before .decode-at .ensures .instruction) ∙ c .before .before .decoded .given .1) (c .row-of .ensures)
+
+  -- and its cycles are few
+  few : c .row-of .result .cycles ≤ 12
+  few = rw (c .row-of .ensures) (row-bounds .most (c .before .before .decoded .given .0 .0) (c .before .before .before .before .before .before .args .place .double))
 
 returns : tie.Need-returns
 returns c =
     let a = c .before .before .before .before .args in
-    sym (turn-unspecified (peekOf (a .mem .now)) (a .limit) (a .place) (sym (c .before .before .decode-at .ensures) ∙ c .enum-told .given .1))
+    sym (turn-unspecified (readOf (busOf (a .mem .now))) (a .limit) (a .place) (sym (c .before .before .decode-at .ensures .instruction) ∙ c .enum-told .given .1))
+
+cast-sum : tie.Need-cast-sum
+cast-sum c = let h = few (c .before) in search needs
+
+add-sum : tie.Need-add-sum
+add-sum c = let h = few (c .before .before) in search needs
 
 returns-2 : tie.Need-returns-2
 returns-2 c = sym (by-row (c .before .before .before) ∙ row-over _ _ _ (c .if1 .taken))
@@ -32,7 +44,7 @@ returns-4 c =
 returns-5 : tie.Need-returns-5
 unfolding placeAfter
 returns-5 c =
-    let b = c .before .before in
+    let b = c .before in
     rw (c .wrapping-add .ensures)
     (sym (by-row (b .before .before .before .before .before) ∙ row-goes _ _ _ (b .before .before .if1 .left) (b .before .if2 .left) (b .if3 .left)))
 
@@ -45,11 +57,10 @@ turn-spec =
     (λ c. search needs)
     returns
     (λ c κs. search needs)
-    (λ c. search needs)
-    (λ c. search needs)
+    cast-sum
+    add-sum
     returns-2
     returns-3
     returns-4
-    (λ c. search needs)
     (λ c κs. search needs)
     returns-5)

@@ -1,0 +1,6 @@
+-- Demand 3. `Instances` depends on none of the others.
+pub mod Instances
+pub mod GrantLaws
+pub mod StepLaws
+pub mod FollowLaws
+pub mod Demand
