@@ -10,6 +10,8 @@ use lib.ListN.{length, getD, drop, set, length-set, length-drop}
 use lib.Seq.{getD-set-other, getD-drop, drop-set-lt, drop-set-add}
 use borrow.Author.Tests.{eq-eqb, ne-eqb, eqb-true}
 use Rattle.refusal.specs.declared.Refusal.the-variants.{MemoryTooLong, WrongBoard, SumDiffers}
+use Rattle.refusal.specs.Report.{answered}
+use Rattle.refusal.proofs.ReportLaws.{no-answer}
 use Rattle.memory.specs.Memory.{tooLong}
 use Rattle.word.proofs.Choice.{cond-true, cond-false}
 use Rattle.image.specs.declared.parse.Head.{Head}
@@ -19,13 +21,11 @@ use Rattle.image.specs.declared.parse.Part.the-variants.{Record as AtRec
 use Rattle.image.specs.Bytes.{wordAt, wordsOf}
 use Rattle.image.specs.Format.{total, Record, recordAt, recordsSum, checksum}
 use Rattle.image.specs.Read.{headOf, placeOf, recordOf, tailOf, partOf, Body, whole, broken, withRecord, follow, bodyOf}
-use Rattle.image.specs.Answer.{answered}
 use Rattle.image.specs.Load.{refuse, accept, isFor, sumAgrees, sumTested, boardTested, loadOf}
 use Rattle.image.specs.Trip.{InWords, ByteChanged}
 use Rattle.image.proofs.ByteLaws.{words-length}
 use Rattle.image.proofs.ReadLaws.{part-sound, body-law}
 use Rattle.image.proofs.LoadLaws.{load-head}
-use Rattle.image.proofs.TripLaws.{no-refusal}
 
 -- A sum x with the byte `old` in it, and y with b in its place: as the low or as the high half of a word.
 abbrev Moved : ℕ → ℕ → ℕ → ℕ → Type 0
@@ -193,7 +193,7 @@ record Opened (board : ℕ) (m file : List ℕ) (rs : List Record) (stated : ℕ
 module _ (board : ℕ) (m file : List ℕ) (rs : List Record) (stated k : ℕ) (e : bodyOf (length m) (drop 4 file) ≡ whole rs stated) where
   sum-opened : (named : ℕ) (t : Bool) → sumAgrees named rs stated ≡ t → cond t (accept m rs) (refuse m SumDiffers) .answer ≡ answered k → sumAgrees named rs stated ≡ true
   sum-opened named true f g = f
-  sum-opened named false f g = no-refusal g
+  sum-opened named false f g = no-answer g
 
   board-opened : (named : ℕ) (t : Bool) → isFor named board ≡ t → tooLong m ≡ false → headOf file ≡ Board named
       → cond t (sumTested m named (bodyOf (length m) (drop 4 file))) (refuse m WrongBoard) .answer ≡ answered k → Opened board m file rs stated
@@ -201,14 +201,14 @@ module _ (board : ℕ) (m file : List ℕ) (rs : List Record) (stated k : ℕ) (
       let n : named ≡ board = eqb-true named board f in
       let s = sum-opened named (sumAgrees named rs stated) refl (rw e at g) in
       record { fits = a; head = h ∙ ap Board n; sum = rw n at s }
-  board-opened named false f a h g = no-refusal g
+  board-opened named false f a h g = no-answer g
 
   head-opened : (h : Head) → tooLong m ≡ false → headOf file ≡ h → boardTested m board file h .answer ≡ answered k → Opened board m file rs stated
   head-opened (Board named) a f g = board-opened named (isFor named board) refl a f g
-  head-opened Malformed a f g = no-refusal g
+  head-opened Malformed a f g = no-answer g
 
   length-opened : (t : Bool) → tooLong m ≡ t → cond t (refuse m MemoryTooLong) (boardTested m board file (headOf file)) .answer ≡ answered k → Opened board m file rs stated
-  length-opened true a g = no-refusal g
+  length-opened true a g = no-answer g
   length-opened false a g = head-opened (headOf file) a refl g
 
   opened : loadOf board m file .answer ≡ answered k → Opened board m file rs stated

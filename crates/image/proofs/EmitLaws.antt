@@ -10,8 +10,7 @@ use lib.ListN.{length, getD, take, drop, length-append, length-take, length-drop
 use lib.Seq.{take-suc, take-length, drop-drop, sets, length-sets}
 use borrow.Author.Tests.{eq-eqb, ne-eqb, eqb-true, eqb-false, lt-ltb, le-ltb}
 use Rattle.refusal.specs.declared.Refusal.the-variants.{MemoryTooLong, FirstAboveLast, PastMemory, ImageRoomTooSmall}
-use Rattle.refusal.specs.Refusals.{refusalNumber}
-use Rattle.refusal.proofs.Laws.{numbers-apart}
+use Rattle.refusal.proofs.ReportLaws.{no-answer, same-answer, same-refusal}
 use Rattle.memory.specs.Memory.{tooLong}
 use Rattle.word.specs.Word.{wrapAdd}
 use Rattle.word.proofs.Choice.{cond-true, cond-false}
@@ -24,11 +23,10 @@ use Rattle.image.proofs.ByteLaws.{bytes-length, bytes-append, sets-spli
 use Rattle.image.proofs.PassLaws.{mod-left, mod-right}
 
 pub write-answers-apart : WriteAnswersApart
-write-answers-apart (Refused a) (Refused b) e =
-    let n : refusalNumber a ≡ refusalNumber b = cc in ap Refused (numbers-apart a b n)
-write-answers-apart (Refused a) (Written b) e = let z : _≡_ {A = ℕ} 0 1 = cc in absurd (omega arith)
-write-answers-apart (Written a) (Refused b) e = let z : _≡_ {A = ℕ} 0 1 = cc in absurd (omega arith)
-write-answers-apart (Written a) (Written b) e = cc
+write-answers-apart (Refused a) (Refused b) e = ap Refused (same-refusal a b e)
+write-answers-apart (Refused a) (Written b) e = no-answer e
+write-answers-apart (Written a) (Refused b) e = no-answer (sym e)
+write-answers-apart (Written a) (Written b) e = ap Written (same-answer e)
 
 -- a first word, and then the others
 put-on : (d : List ℕ) (at w : ℕ) (ws : List ℕ) → sets d at (bytesOf (w ∷ ws)) ≡ sets (sets d at (bytesOf (w ∷ []))) (at + 2) (bytesOf ws)

@@ -7,6 +7,8 @@ use lib.ListN.{length, drop}
 use Rattle.word.proofs.Choice.{cond-both}
 use Rattle.refusal.specs.declared.Refusal.{Refusal}
 use Rattle.refusal.specs.declared.Refusal.the-variants.{MemoryTooLong, MalformedImage, WrongBoard, SumDiffers}
+use Rattle.refusal.specs.Report.{answered}
+use Rattle.refusal.proofs.ReportLaws.{no-answer}
 use Rattle.memory.specs.Memory.{tooLong}
 use Rattle.image.specs.declared.LoadAnswer.{LoadAnswer}
 use Rattle.image.specs.declared.LoadAnswer.the-variants.{Loaded}
@@ -16,7 +18,7 @@ use Rattle.image.specs.declared.parse.Part.{Part}
 use Rattle.image.specs.declared.parse.Part.the-variants.{Record as AtRecord, Tail, Offence}
 use Rattle.image.specs.Format.{Record, recordAt}
 use Rattle.image.specs.Read.{headOf, partOf, first, none, firstOf, Body, whole, broken, withRecord, follow, bodyOf, WholeFile}
-use Rattle.image.specs.Answer.{answered, loadReported}
+use Rattle.image.specs.Answer.{loadReported}
 use Rattle.image.specs.Load.{Loading, refuse, isFor, sumAgrees, sumTested, boardTested, loadOf, loaded}
 use Rattle.image.proofs.ReadLaws.{Sound, head-long, part-sound, body-law}
 
@@ -26,7 +28,7 @@ Shows m file l = (n : ℕ) → l .answer ≡ answered n → WholeFile (length m)
 
 module _ (board : ℕ) (m file : List ℕ) where
   refused-shows : (e : Refusal) → Shows m file (refuse m e)
-  refused-shows e n h = let z : _≡_ {A = ℕ} 0 1 = cc in absurd (omega arith)
+  refused-shows e n h = no-answer h
 
   body-shows : (head : ℕ) → 4 ≤ length file → (b : Body) → bodyOf (length m) (drop 4 file) ≡ b → Shows m file (sumTested m head b)
   body-shows head h (whole rs stated) e =

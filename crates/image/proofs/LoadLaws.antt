@@ -8,8 +8,8 @@ use lib.Dec.{eqb}
 use lib.ListN.{length, take, drop}
 use Rattle.refusal.specs.declared.Refusal.{Refusal}
 use Rattle.refusal.specs.declared.Refusal.the-variants.{MemoryTooLong, WrongBoard, SumDiffers}
-use Rattle.refusal.specs.Refusals.{refusalNumber}
-use Rattle.refusal.proofs.Laws.{numbers-apart}
+use Rattle.refusal.specs.Report.{answered}
+use Rattle.refusal.proofs.ReportLaws.{no-answer, same-answer, same-refusal}
 use Rattle.memory.specs.Memory.{tooLong}
 use Rattle.word.specs.Word.{wrapAdd}
 use Rattle.image.specs.declared.LoadAnswer.the-variants.{Refused, Loaded}
@@ -18,7 +18,7 @@ use Rattle.image.specs.declared.parse.Head.the-variants.{Board}
 use Rattle.image.specs.declared.check.Checked.the-variants.{Whole, Broken}
 use Rattle.image.specs.Format.{recordsSum, checksum}
 use Rattle.image.specs.Read.{headOf, Body, whole, broken, bodyOf}
-use Rattle.image.specs.Answer.{answered, LoadAnswersApart}
+use Rattle.image.specs.Answer.{LoadAnswersApart}
 use Rattle.image.specs.Load.{Loading, refuse, isFor, sumTested, boardTested, loadOf, loaded}
 use Rattle.image.specs.Pass.{summary, isWhole, placedBody}
 use Rattle.image.proofs.PassLaws.{mod-right}
@@ -26,11 +26,10 @@ use Rattle.image.proofs.ByteLaws.{rest}
 use Rattle.word.proofs.Choice.{cond-true, cond-false}
 
 pub load-answers-apart : LoadAnswersApart
-load-answers-apart (Refused a) (Refused b) e =
-    let n : refusalNumber a ≡ refusalNumber b = cc in ap Refused (numbers-apart a b n)
-load-answers-apart (Refused a) (Loaded b) e = let z : _≡_ {A = ℕ} 0 1 = cc in absurd (omega arith)
-load-answers-apart (Loaded a) (Refused b) e = let z : _≡_ {A = ℕ} 0 1 = cc in absurd (omega arith)
-load-answers-apart (Loaded a) (Loaded b) e = cc
+load-answers-apart (Refused a) (Refused b) e = ap Refused (same-refusal a b e)
+load-answers-apart (Refused a) (Loaded b) e = no-answer e
+load-answers-apart (Loaded a) (Refused b) e = no-answer (sym e)
+load-answers-apart (Loaded a) (Loaded b) e = ap Loaded (same-answer e)
 
 -- the sum test, as the code makes it and as the definition has it
 tested : (m : List ℕ) (head n s stated : ℕ) (b : Body) (t : Bool) → Whole n s stated ≡ summary 0 0 b → eqb (wrapAdd head s) stated ≡ t

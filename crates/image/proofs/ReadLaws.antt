@@ -1,7 +1,6 @@
 -- Laws of reading: what a part shows, and the body's equation without a count.
 use Prim.Native.Nat.{ℕ, zero, suc, _+_, _*_, _<_, _≤_}
 use mathlib.Core.Path.{_≡_, refl, ap, _∙_}
-use mathlib.Core.Bool.{Bool, true, false, cond}
 use mathlib.Core.List.{List, [], _∷_}
 use native.Mathlib.Omega.{arith}
 use lib.Dec.{eqb, ltb}
@@ -16,12 +15,7 @@ use Rattle.image.specs.declared.parse.Part.the-variants.{Record as AtRec
 use Rattle.image.specs.Bytes.{wordAt}
 use Rattle.image.specs.Format.{recordLimit, idMark, atMark, okMark, recordAt}
 use Rattle.image.specs.Read.{headOf, placeOf, recordOf, tailOf, partOf, Body, withRecord, follow, bodyFrom, bodyOf}
-use Rattle.word.proofs.Choice.{cond-both}
-
--- what holds of each way, given the test's outcome, holds of the one taken
-cond-cases : {A : Type 0} (P : A → Type 0) (b : Bool) {x y : A} → (b ≡ true → P x) → (b ≡ false → P y) → P (cond b x y)
-cond-cases P true p q = p refl
-cond-cases P false p q = q refl
+use Rattle.word.proofs.Choice.{cond-both, cond-either}
 
 -- what a record's part shows
 pub record Sound (len : ℕ) (bytes : List ℕ) (a c : ℕ) : Type 0 where
@@ -44,10 +38,10 @@ module _ (len : ℕ) (bytes : List ℕ) (a c : ℕ) where
   place-sound : (a₁ c₁ : ℕ) → Claim len bytes a c (placeOf len bytes a₁ c₁)
   unfolding placeOf
   place-sound a₁ c₁ =
-      cond-cases (Claim len bytes a c) (eqb c₁ 0) (λ e. offence MalformedImage) (λ e0.
-      cond-cases (Claim len bytes a c) (ltb recordLimit c₁) (λ e. offence MalformedImage) (λ e1.
-      cond-cases (Claim len bytes a c) (ltb (length bytes) (6 + c₁ * 2)) (λ e. offence MalformedImage) (λ e2.
-      cond-cases (Claim len bytes a c) (ltb len (a₁ + c₁)) (λ e. offence PastMemory) (λ e3. λ f.
+      cond-either (Claim len bytes a c) (eqb c₁ 0) (λ e. offence MalformedImage) (λ e0.
+      cond-either (Claim len bytes a c) (ltb recordLimit c₁) (λ e. offence MalformedImage) (λ e1.
+      cond-either (Claim len bytes a c) (ltb (length bytes) (6 + c₁ * 2)) (λ e. offence MalformedImage) (λ e2.
+      cond-either (Claim len bytes a c) (ltb len (a₁ + c₁)) (λ e. offence PastMemory) (λ e3. λ f.
       let ea : a₁ ≡ a = cc in
       let ec : c₁ ≡ c = cc in
       let n0 = eqb-false c₁ 0 e0 in
@@ -76,7 +70,7 @@ malformed file b f = let z : _≡_ {A = ℕ} 0 1 = cc in absurd (omega arith)
 pub head-long : (file : List ℕ) (b : ℕ) → headOf file ≡ Board b → 4 ≤ length file
 unfolding headOf
 head-long file b =
-    cond-cases (Long file b) (ltb (length file) 4) (λ e. malformed file b) (λ e.
+    cond-either (Long file b) (ltb (length file) 4) (λ e. malformed file b) (λ e.
     cond-both (Long file b) (eqb (wordAt file 0) idMark) (λ f. ltb-false (length file) 4 e) (malformed file b))
 
 -- two readers that agree on what follows a record

@@ -9,6 +9,8 @@ use lib.ListN.{length, getD, take, drop, length-append, length-take, length-drop
 use lib.Seq.{drop-drop, drop-at, take-append-seam, getD-append-add, getD-take, getD-drop, length-take-le, sets}
 use borrow.Author.Tests.{eq-eqb, ne-eqb, eqb-true, eqb-false, ltb-false, le-ltb}
 use Rattle.refusal.specs.declared.Refusal.the-variants.{MemoryTooLong, FirstAboveLast, PastMemory, ImageRoomTooSmall, WrongBoard}
+use Rattle.refusal.specs.Report.{answered}
+use Rattle.refusal.proofs.ReportLaws.{no-answer}
 use Rattle.memory.specs.Memory.{peekOf}
 use Rattle.word.proofs.Choice.{cond-true, cond-false}
 use Rattle.image.specs.declared.parse.Head.the-variants.{Board}
@@ -16,7 +18,6 @@ use Rattle.image.specs.declared.parse.Part.the-variants.{Record as AtRec
 use Rattle.image.specs.Bytes.{wordAt, wordsOf, bytesOf, overwrite}
 use Rattle.image.specs.Format.{recordLimit, Record, recordOver, checksum, recordWords, recordsWords, tailWords, imageOf}
 use Rattle.image.specs.Read.{headOf, placeOf, recordOf, tailOf, partOf, whole, follow, bodyOf}
-use Rattle.image.specs.Answer.{refused, answered}
 use Rattle.image.specs.Load.{refuse, placed, accept, sumAgrees, sumTested, loadOf}
 use Rattle.image.specs.Write.{cutFrom, cutOf, recordCount, regionOf, Writing, refuseRoom, writing, regionImage, writeOf}
 use Rattle.image.specs.Trip.{PutBack, RoundTrip, isRight, OtherBoard}
@@ -224,9 +225,6 @@ record Wrote (board : ℕ) (m : List ℕ) (first last : ℕ) (file : List ℕ) :
   within : last < length m
   is : file ≡ regionImage board m first last
 
-pub no-refusal : {A : Type 0} {r b : ℕ} → refused r ≡ answered b → A
-no-refusal e = let z : _≡_ {A = ℕ} 0 1 = cc in absurd (omega arith)
-
 module _ (board : ℕ) (m : List ℕ) (first last : ℕ) (file room : List ℕ) where
   image : List ℕ
   image = regionImage board m first last
@@ -236,10 +234,10 @@ module _ (board : ℕ) (m : List ℕ) (first last : ℕ) (file room : List ℕ) 
       (cond x (refuseRoom room ImageRoomTooSmall) (record { answer = answered (length image); room = overwrite room 0 image })))) in
       r .answer ≡ answered (length file) → take (length file) (r .room) ≡ file → Wrote board m first last file
   unfolding image overwrite
-  made true v w x a b c d e f = no-refusal e
-  made false true w x a b c d e f = no-refusal e
-  made false false true x a b c d e f = no-refusal e
-  made false false false true a b c d e f = no-refusal e
+  made true v w x a b c d e f = no-answer e
+  made false true w x a b c d e f = no-answer e
+  made false false true x a b c d e f = no-answer e
+  made false false false true a b c d e f = no-answer e
   made false false false false a b c d e f =
       let l : length image ≡ length file = cc in
       let g = take-append-seam image (drop (0 + length image) room) in

@@ -1,8 +1,8 @@
 -- What the loader and the writer report, in document 01's numbers: the refusal's number, or the one number that is asked for. And what
 -- stands at the front of some bytes of a file.
 use Prim.Native.Nat.{ℕ}
-use mathlib.Core.Path.{_≡_}
 use Rattle.refusal.specs.Refusals.{refusalNumber}
+use Rattle.refusal.specs.Report.{Report, refused, answered, OneToOne}
 use Rattle.image.specs.declared.LoadAnswer.{LoadAnswer}
 use Rattle.image.specs.declared.LoadAnswer.the-variants.{Refused as LoadRefused, Loaded}
 use Rattle.image.specs.declared.WriteAnswer.{WriteAnswer}
@@ -11,18 +11,13 @@ use Rattle.image.specs.declared.FirstRecord.{FirstRecord}
 use Rattle.image.specs.declared.FirstRecord.the-variants.{Record as FoundRecord, NoRecord}
 use Rattle.image.specs.Read.{First, first, none}
 
--- a refusal's number is kept apart from the number that is asked for
-pub data Reported : Type 0 where
-  refused : ℕ → Reported
-  answered : ℕ → Reported
-
 -- "The loader answers the number of records."
-abbrev pub loadReported : LoadAnswer → Reported
+abbrev pub loadReported : LoadAnswer → Report ℕ
 loadReported (LoadRefused r) = refused (refusalNumber r)
 loadReported (Loaded records) = answered records
 
 -- The writer "answers the length".
-abbrev pub writeReported : WriteAnswer → Reported
+abbrev pub writeReported : WriteAnswer → Report ℕ
 writeReported (WriteRefused r) = refused (refusalNumber r)
 writeReported (Written bytes) = answered bytes
 
@@ -33,7 +28,7 @@ firstReported NoRecord = none
 
 -- no two answers are reported alike
 abbrev pub LoadAnswersApart : Type 0
-LoadAnswersApart = (a b : LoadAnswer) → loadReported a ≡ loadReported b → a ≡ b
+LoadAnswersApart = OneToOne loadReported
 
 abbrev pub WriteAnswersApart : Type 0
-WriteAnswersApart = (a b : WriteAnswer) → writeReported a ≡ writeReported b → a ≡ b
+WriteAnswersApart = OneToOne writeReported

@@ -7,6 +7,7 @@ use lib.ListN.{length, drop}
 use Rattle.refusal.specs.declared.Refusal.{Refusal}
 use Rattle.refusal.specs.declared.Refusal.the-variants.{MemoryTooLong, MalformedImage, WrongBoard, SumDiffers}
 use Rattle.refusal.specs.Refusals.{refusalNumber}
+use Rattle.refusal.specs.Report.{Report, refused, answered}
 use Rattle.memory.specs.Memory.{tooLong}
 use Rattle.image.specs.declared.LoadAnswer.{LoadAnswer}
 use Rattle.image.specs.declared.parse.Head.{Head}
@@ -14,11 +15,11 @@ use Rattle.image.specs.declared.parse.Head.the-variants.{Board, Malforme
 use Rattle.image.specs.Bytes.{overwrite}
 use Rattle.image.specs.Format.{Record, checksum}
 use Rattle.image.specs.Read.{headOf, Body, whole, broken, bodyOf}
-use Rattle.image.specs.Answer.{Reported, refused, answered, loadReported}
+use Rattle.image.specs.Answer.{loadReported}
 
 -- all that a loading leaves: what it reports, and the memory
 pub record Loading : Type 0 where
-  pub answer : Reported
+  pub answer : Report ℕ
   pub memory : List ℕ
 
 -- a refusal leaves every word as it was

@@ -5,10 +5,10 @@ use mathlib.Core.Bool.{Bool, true, false}
 use mathlib.Core.Logic.{_⊎_}
 use mathlib.Core.List.{List, [], _∷_}
 use lib.ListN.{length, getD, take, drop, set}
+use Rattle.refusal.specs.Report.{refused, answered}
 use Rattle.memory.specs.Memory.{peekOf}
 use Rattle.image.specs.Format.{Record}
 use Rattle.image.specs.Read.{Body, whole, broken, bodyOf}
-use Rattle.image.specs.Answer.{refused, answered}
 use Rattle.image.specs.Load.{Loading, sumAgrees, loadOf}
 use Rattle.image.specs.Write.{recordCount, writeOf}
 

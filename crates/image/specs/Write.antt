@@ -7,11 +7,12 @@ use lib.ListN.{length, take, drop}
 use Rattle.refusal.specs.declared.Refusal.{Refusal}
 use Rattle.refusal.specs.declared.Refusal.the-variants.{MemoryTooLong, FirstAboveLast, PastMemory, ImageRoomTooSmall}
 use Rattle.refusal.specs.Refusals.{refusalNumber}
+use Rattle.refusal.specs.Report.{Report, refused, answered}
 use Rattle.memory.specs.Memory.{tooLong}
 use Rattle.image.specs.declared.WriteAnswer.{WriteAnswer}
 use Rattle.image.specs.Bytes.{overwrite}
 use Rattle.image.specs.Format.{recordLimit, Record, recordOver, imageOf}
-use Rattle.image.specs.Answer.{Reported, refused, answered, writeReported}
+use Rattle.image.specs.Answer.{writeReported}
 
 -- the words ws from address a on, cut into records of `limit` words, the last perhaps shorter: each begins where the one before it
 -- ends. By at most n records, of a word or more each.
@@ -37,7 +38,7 @@ regionOf m first last = take (last + 1 - first) (drop first m)
 
 -- all that a writing leaves: what it reports, and the room
 pub record Writing : Type 0 where
-  pub answer : Reported
+  pub answer : Report ℕ
   pub room : List ℕ
 
 -- a refusal leaves every byte as it was

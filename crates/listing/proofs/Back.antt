@@ -10,7 +10,7 @@ use Rattle.word.proofs.Choice.{cond-both}
 use Rattle.listing.specs.Rows.{templateOf}
 use Rattle.listing.specs.declared.line.Line.{Line}
 use Rattle.listing.specs.Line.{lineWith, digitOf, fieldOf, glyphOf, textOf}
-use Rattle.listing.specs.Assemble.{valueOf, signValue, takenOf, readIn, readOf}
+use Rattle.listing.specs.Assemble.{valueOf, signValue, withSymbol, readIn, lineRead}
 use Rattle.listing.proofs.Tests.{below-at, both-left, both-right}
 use Rattle.listing.proofs.Table.{hexes, occurs, template-hexes}
 
@@ -26,8 +26,8 @@ unfolding valueOf
 value-16 c = cond-both (λ n. n < 16) (ltb c 65) (omega arith) (omega arith)
 
 -- the row stays, and the operand is a word
-taken-row : (l : Line) (h c : ℕ) → takenOf l h c .row ≡ l .row
-unfolding takenOf
+taken-row : (l : Line) (h c : ℕ) → withSymbol l h c .row ≡ l .row
+unfolding withSymbol
 taken-row l h c = go (ltb h 97) (eqb h 115) (eqb h 100) (eqb h 103)
   where
     P : Line → Type 0
@@ -36,8 +36,8 @@ taken-row l h c = go (ltb h 97) (eqb h 115) (eqb h 100) (eqb h 103)
     go : (a b d g : Bool) → P (cond a l (cond b (lineWith (l .row) (valueOf c) (l .d) (l .operand)) (cond d (lineWith (l .row) (l .s) (valueOf c) (l .operand)) (cond g (lineWith (l .row) (signValue c) (l .d) (l .operand)) (lineWith (l .row) (l .s) (l .d) (l .operand % 4096 * 16 + valueOf c))))))
     go a b d g = cond-both P a refl (cond-both P b refl (cond-both P d refl (cond-both P g refl refl)))
 
-taken-16 : (l : Line) (h c : ℕ) → l .operand < 65536 → takenOf l h c .operand < 65536
-unfolding takenOf
+taken-16 : (l : Line) (h c : ℕ) → l .operand < 65536 → withSymbol l h c .operand < 65536
+unfolding withSymbol
 taken-16 l h c k =
     let P : Line → Type 0 = λ x. x .operand < 65536 in
     cond-both P (ltb h 97) k
@@ -46,41 +46,41 @@ taken-16 l h c k =
 in-row : (t text : List ℕ) (l : Line) → readIn t text l .row ≡ l .row
 in-row [] text l = refl
 in-row (h ∷ t) [] l = refl
-in-row (h ∷ t) (c ∷ text) l = in-row t text (takenOf l h c) ∙ taken-row l h c
+in-row (h ∷ t) (c ∷ text) l = in-row t text (withSymbol l h c) ∙ taken-row l h c
 
 in-16 : (t text : List ℕ) (l : Line) → l .operand < 65536 → readIn t text l .operand < 65536
 in-16 [] text l k = k
 in-16 (h ∷ t) [] l k = k
-in-16 (h ∷ t) (c ∷ text) l k = in-16 t text (takenOf l h c) (taken-16 l h c k)
+in-16 (h ∷ t) (c ∷ text) l k = in-16 t text (withSymbol l h c) (taken-16 l h c k)
 
-pub read-row : (r : ℕ) (text : List ℕ) → readOf r text .row ≡ r
-unfolding readOf
+pub read-row : (r : ℕ) (text : List ℕ) → lineRead r text .row ≡ r
+unfolding lineRead
 read-row r text = in-row (templateOf r) text (lineWith r 0 0 0)
 
-pub read-16 : (r : ℕ) (text : List ℕ) → readOf r text .operand < 65536
-unfolding readOf
+pub read-16 : (r : ℕ) (text : List ℕ) → lineRead r text .operand < 65536
+unfolding lineRead
 read-16 r text = in-16 (templateOf r) text (lineWith r 0 0 0) (lit< tt)
 
 -- s and d are read alike whatever the operand is
 module _ (r s d x y : ℕ) where
-  step-s : (h : ℕ) (f g : Line) → f .s ≡ g .s → takenOf f h (glyphOf (lineWith r s d x) h) .s ≡ takenOf g h (glyphOf (lineWith r s d y) h) .s
-  unfolding takenOf glyphOf fieldOf
+  step-s : (h : ℕ) (f g : Line) → f .s ≡ g .s → withSymbol f h (glyphOf (lineWith r s d x) h) .s ≡ withSymbol g h (glyphOf (lineWith r s d y) h) .s
+  unfolding withSymbol glyphOf fieldOf
   step-s h f g p = go (ltb h 97) refl (eqb h 115) refl (eqb h 100) refl (eqb h 103) refl
     where
       go : (a : Bool) → ltb h 97 ≡ a → (b : Bool) → eqb h 115 ≡ b → (c : Bool) → eqb h 100 ≡ c → (e : Bool) → eqb h 103 ≡ e
-          → takenOf f h (glyphOf (lineWith r s d x) h) .s ≡ takenOf g h (glyphOf (lineWith r s d y) h) .s
+          → withSymbol f h (glyphOf (lineWith r s d x) h) .s ≡ withSymbol g h (glyphOf (lineWith r s d y) h) .s
       go true i b j c k e l = rw i p
       go false i true j c k e l = let n : h ≡ 115 = eqb-true h 115 j in rw (i, j, ne-eqb h 103 (λ z. omega arith))
       go false i false j true k e l = rw (i, j, k) p
       go false i false j false k true l = rw (i, j, k, l)
       go false i false j false k false l = rw (i, j, k, l) p
 
-  step-d : (h : ℕ) (f g : Line) → f .d ≡ g .d → takenOf f h (glyphOf (lineWith r s d x) h) .d ≡ takenOf g h (glyphOf (lineWith r s d y) h) .d
-  unfolding takenOf glyphOf fieldOf
+  step-d : (h : ℕ) (f g : Line) → f .d ≡ g .d → withSymbol f h (glyphOf (lineWith r s d x) h) .d ≡ withSymbol g h (glyphOf (lineWith r s d y) h) .d
+  unfolding withSymbol glyphOf fieldOf
   step-d h f g p = go (ltb h 97) refl (eqb h 115) refl (eqb h 100) refl (eqb h 103) refl
     where
       go : (a : Bool) → ltb h 97 ≡ a → (b : Bool) → eqb h 115 ≡ b → (c : Bool) → eqb h 100 ≡ c → (e : Bool) → eqb h 103 ≡ e
-          → takenOf f h (glyphOf (lineWith r s d x) h) .d ≡ takenOf g h (glyphOf (lineWith r s d y) h) .d
+          → withSymbol f h (glyphOf (lineWith r s d x) h) .d ≡ withSymbol g h (glyphOf (lineWith r s d y) h) .d
       go true i b j c k e l = rw i p
       go false i true j c k e l = rw (i, j) p
       go false i false j true k e l = let n : h ≡ 100 = eqb-true h 100 k in rw (i, j, k, ne-eqb h 103 (λ z. omega arith))
@@ -100,12 +100,12 @@ abbrev digitsIn : Line → List ℕ → ℕ → ℕ
 digitsIn l [] x = x
 digitsIn l (h ∷ t) x = digitsIn l t (x % 4096 * 16 + valueOf (glyphOf l h))
 
-hex-step : (l : Line) (h : ℕ) (t : List ℕ) (f : Line) → digitsIn l (hexes t) (takenOf f h (glyphOf l h) .operand) ≡ digitsIn l (hexes (h ∷ t)) (f .operand)
-unfolding takenOf
+hex-step : (l : Line) (h : ℕ) (t : List ℕ) (f : Line) → digitsIn l (hexes t) (withSymbol f h (glyphOf l h) .operand) ≡ digitsIn l (hexes (h ∷ t)) (f .operand)
+unfolding withSymbol
 hex-step l h t f = go (ltb h 97) refl (eqb h 115) refl (eqb h 100) refl (eqb h 103) refl
   where
     go : (a : Bool) → ltb h 97 ≡ a → (b : Bool) → eqb h 115 ≡ b → (c : Bool) → eqb h 100 ≡ c → (e : Bool) → eqb h 103 ≡ e
-        → digitsIn l (hexes t) (takenOf f h (glyphOf l h) .operand) ≡ digitsIn l (hexes (h ∷ t)) (f .operand)
+        → digitsIn l (hexes t) (withSymbol f h (glyphOf l h) .operand) ≡ digitsIn l (hexes (h ∷ t)) (f .operand)
     go true i b j c k e m = rw i
     go false i true j c k e m = rw (i, j)
     go false i false j true k e m = rw (i, j, k)
@@ -114,7 +114,7 @@ hex-step l h t f = go (ltb h 97) refl (eqb h 115) refl (eqb h 100) refl (eqb h 1
 
 reads-x : (l : Line) (t : List ℕ) (f : Line) → readIn t (map (glyphOf l) t) f .operand ≡ digitsIn l (hexes t) (f .operand)
 reads-x l [] f = refl
-reads-x l (h ∷ t) f = reads-x l t (takenOf f h (glyphOf l h)) ∙ hex-step l h t f
+reads-x l (h ∷ t) f = reads-x l t (withSymbol f h (glyphOf l h)) ∙ hex-step l h t f
 
 digits : (x : ℕ) → x < 65536
     → (((0 % 4096 * 16 + x / 4096 % 16) % 4096 * 16 + x / 256 % 16) % 4096 * 16 + x / 16 % 16) % 4096 * 16 + x % 16 ≡ x
@@ -142,29 +142,29 @@ shown l false h z = sym (z refl)
 
 -- a row shows s and d: they are read back where the operand is 0
 abbrev pub backs : ℕ → ℕ → ℕ → Bool
-backs r s d = eqb (readOf r (textOf (lineWith r s d 0)) .s) s && eqb (readOf r (textOf (lineWith r s d 0)) .d) d
+backs r s d = eqb (lineRead r (textOf (lineWith r s d 0)) .s) s && eqb (lineRead r (textOf (lineWith r s d 0)) .d) d
 
 module _ (r s d x : ℕ) (h : r < 86) (back : T (backs r s d)) (word : x < 65536) (none : occurs 119 (templateOf r) ≡ false → x ≡ 0) where
-  back-s : readOf r (textOf (lineWith r s d x)) .s ≡ s
-  unfolding readOf textOf
+  back-s : lineRead r (textOf (lineWith r s d x)) .s ≡ s
+  unfolding lineRead textOf
   back-s =
       reads-s r s d x 0 (templateOf r) (lineWith r 0 0 0) (lineWith r 0 0 0) refl
-      ∙ eqb→eq (readOf r (textOf (lineWith r s d 0)) .s) s (both-left (eqb (readOf r (textOf (lineWith r s d 0)) .s) s) (eqb (readOf r (textOf (lineWith r s d 0)) .d) d) back)
+      ∙ eqb→eq (lineRead r (textOf (lineWith r s d 0)) .s) s (both-left (eqb (lineRead r (textOf (lineWith r s d 0)) .s) s) (eqb (lineRead r (textOf (lineWith r s d 0)) .d) d) back)
 
-  back-d : readOf r (textOf (lineWith r s d x)) .d ≡ d
-  unfolding readOf textOf
+  back-d : lineRead r (textOf (lineWith r s d x)) .d ≡ d
+  unfolding lineRead textOf
   back-d =
       reads-d r s d x 0 (templateOf r) (lineWith r 0 0 0) (lineWith r 0 0 0) refl
-      ∙ eqb→eq (readOf r (textOf (lineWith r s d 0)) .d) d (both-right (eqb (readOf r (textOf (lineWith r s d 0)) .s) s) (eqb (readOf r (textOf (lineWith r s d 0)) .d) d) back)
+      ∙ eqb→eq (lineRead r (textOf (lineWith r s d 0)) .d) d (both-right (eqb (lineRead r (textOf (lineWith r s d 0)) .s) s) (eqb (lineRead r (textOf (lineWith r s d 0)) .d) d) back)
 
-  back-x : readOf r (textOf (lineWith r s d x)) .operand ≡ x
-  unfolding readOf textOf
+  back-x : lineRead r (textOf (lineWith r s d x)) .operand ≡ x
+  unfolding lineRead textOf
   back-x =
       reads-x (lineWith r s d x) (templateOf r) (lineWith r 0 0 0)
       ∙ ap (λ (t : List ℕ). digitsIn (lineWith r s d x) t 0) (template-hexes r h)
       ∙ shown (lineWith r s d x) (occurs 119 (templateOf r)) word none
 
-  pub read-back : readOf r (textOf (lineWith r s d x)) ≡ lineWith r s d x
+  pub read-back : lineRead r (textOf (lineWith r s d x)) ≡ lineWith r s d x
   read-back =
       let er = read-row r (textOf (lineWith r s d x)) in
       λ i. record { row = er i; s = back-s i; d = back-d i; operand = back-x i }

@@ -1,38 +1,67 @@
 -- The entry at an address: its row is in the table, and it is that of three words.
-use Prim.Native.Nat.{ℕ, _/_, _%_, _<_}
-use mathlib.Core.Bool.{Bool, false, _&&_}
+use Prim.Native.Nat.{ℕ, zero, suc, _+_, _*_, _/_, _%_, _<_}
+use mathlib.Core.Path.{_≡_, refl, ap, _∙_}
+use mathlib.Core.Bool.{Bool, true, false, cond}
+use mathlib.Core.List.{[], _∷_}
 use native.Mathlib.Omega.{arith}
-use lib.Dec.{eqb, leb, ltb, lit<}
+use lib.Dec.{eqb, ltb, lit<}
+use lib.ListN.{getD}
 use borrow.Author.Tests.{ltb-true}
 use Rattle.word.specs.Word.{wrapAdd}
-use Rattle.word.proofs.Choice.{cond-both}
+use Rattle.word.proofs.Choice.{cond-both, cond-either}
 use Rattle.decode.specs.declared.Instr.{Instr}
-use Rattle.decode.specs.declared.Instr.the-variants.{Control, Single, Shift, Branch, Store, Operate}
+use Rattle.decode.specs.declared.Instr.the-variants.{Hlt, Control, Jump, Single, Gswd, Nop, Sin, Shift, Register, Branch, Store, Read}
 use Rattle.decode.specs.declared.Decoded.{Decoded}
 use Rattle.decode.specs.declared.Decoded.the-variants.{Unspecified, Known}
+use Rattle.decode.specs.Fields.{isExternal, Return, noReturn, returnIn, returnOf, jumpTarget, jumpBits}
 use Rattle.decode.specs.Decode.{decodeAt}
 use Rattle.decode.specs.Rows.{rowOf}
 use Rattle.listing.specs.declared.line.Line.{Line}
-use Rattle.listing.specs.Disassemble.{jumpLine, controlLine, singleLine, shiftLine, branchLine, memoryLine, operateLine, lineOf, operandOf, entryFor, entryOf, entryAt}
-use Rattle.listing.proofs.Tests.{cond-cases}
+use Rattle.listing.specs.Line.{lineWith}
+use Rattle.listing.specs.Disassemble.{jumpLineBy, jumpLine, controlLine, singleLine, shiftLine, branchSign, branchLine, memoryLine, registerLine, lineOf, lineOperand, entryFor, entryOf, entryAt}
+
+-- the return register by its two bits
+return-is : (n : ℕ) → n < 4 → getD (returnIn 4 ∷ returnIn 5 ∷ returnIn 6 ∷ []) n noReturn ≡ cond (eqb n 3) noReturn (returnIn (n + 4))
+return-is zero h = refl
+return-is (suc zero) h = refl
+return-is (suc (suc zero)) h = refl
+return-is (suc (suc (suc zero))) h = refl
+return-is (suc (suc (suc (suc n)))) h = absurd (omega arith)
+
+jump-by : (b : Bool) (r bits target : ℕ) → jumpLineBy (cond b noReturn (returnIn r)) bits target ≡ cond b (lineWith (79 + bits) 0 0 target) (lineWith (82 + bits) 0 r target)
+jump-by true r bits target = refl
+jump-by false r bits target = refl
+
+pub jump-line : (a b : ℕ) → jumpLine a b
+    ≡ cond (eqb (a / 256 % 4) 3) (lineWith (79 + jumpBits a) 0 0 (jumpTarget a b)) (lineWith (82 + jumpBits a) 0 (a / 256 % 4 + 4) (jumpTarget a b))
+unfolding jumpLine returnOf
+jump-line a b =
+    ap (λ (r : Return). jumpLineBy r (jumpBits a) (jumpTarget a b)) (return-is (a / 256 % 4) (omega arith))
+    ∙ jump-by (eqb (a / 256 % 4) 3) (a / 256 % 4 + 4) (jumpBits a) (jumpTarget a b)
+
+-- the field s of a branch by its bit 5
+pub branch-sign : (b : ℕ) → b / 32 % 2 * 4 ≡ branchSign b
+branch-sign b = go (b / 32 % 2) (omega arith)
+  where
+    go : (n : ℕ) → n < 2 → n * 4 ≡ cond (eqb n 1) 4 0
+    go zero h = refl
+    go (suc zero) h = refl
+    go (suc (suc n)) h = absurd (omega arith)
 
 -- a line of the table
 abbrev InTable : Line → Type 0
 InTable l = l .row < 86
 
 jump-in : (a b : ℕ) → InTable (jumpLine a b)
-unfolding jumpLine
-jump-in a b = cond-both InTable (eqb (a / 256 % 4) 3) (omega arith) (omega arith)
+jump-in a b = rw (jump-line a b) (cond-both InTable (eqb (a / 256 % 4) 3) (omega arith) (omega arith))
 
-control-in : (d x a b : ℕ) → InTable (controlLine d x a b)
+control-in : (d x : ℕ) → InTable (controlLine d x)
 unfolding controlLine
-control-in d x a b =
-    cond-both InTable (eqb d 4) (jump-in a b)
-    (cond-cases InTable (ltb d 4) (λ e. let h = ltb-true d 4 e in omega arith) (λ e. omega arith))
+control-in d x = cond-either InTable (ltb d 4) (λ e. let h = ltb-true d 4 e in omega arith) (λ e. omega arith)
 
 single-in : (s d x : ℕ) → InTable (singleLine s d x)
 unfolding singleLine
-single-in s d x = cond-both InTable (eqb s 6 && leb 4 d) (omega arith) (omega arith)
+single-in s d x = omega arith
 
 shift-in : (s d x : ℕ) → InTable (shiftLine s d x)
 unfolding shiftLine
@@ -40,23 +69,29 @@ shift-in s d x = omega arith
 
 branch-in : (b x : ℕ) → InTable (branchLine b x)
 unfolding branchLine
-branch-in b x = cond-both InTable (eqb (b / 16 % 2) 1) (omega arith) (omega arith)
+branch-in b x = cond-both InTable (isExternal b) (omega arith) (omega arith)
 
-memory-in : (k s d x : ℕ) → InTable (memoryLine k s d x)
+memory-in : (row s d x : ℕ) → InTable (memoryLine row s d x)
 unfolding memoryLine
-memory-in k s d x = cond-both InTable (eqb s 0) (omega arith) (cond-both InTable (eqb s 7) (omega arith) (omega arith))
+memory-in row s d x = cond-both InTable (eqb s 0) (omega arith) (cond-both InTable (eqb s 7) (omega arith) (omega arith))
 
-operate-in : (k s d x : ℕ) → InTable (operateLine k s d x)
-unfolding operateLine
-operate-in k s d x = cond-both InTable (ltb k 8) (omega arith) (memory-in k s d x)
+register-in : (row s d x : ℕ) → InTable (registerLine row s d x)
+unfolding registerLine
+register-in row s d x = omega arith
 
 line-in : (i : Instr) (x a b : ℕ) → InTable (lineOf i x a b)
-line-in (Control d) x a b = control-in d x a b
+line-in Hlt x a b = control-in 0 x
+line-in (Control d) x a b = control-in d x
+line-in Jump x a b = jump-in a b
 line-in (Single s d) x a b = single-in s d x
+line-in (Gswd d) x a b = single-in 6 d x
+line-in (Nop n) x a b = omega arith
+line-in (Sin n) x a b = omega arith
 line-in (Shift s d) x a b = shift-in s d x
+line-in (Register row s d) x a b = register-in row s d x
 line-in (Branch bits) x a b = branch-in bits x
-line-in (Store s d) x a b = memory-in 1 s d x
-line-in (Operate k s d) x a b = operate-in k s d x
+line-in (Store s d) x a b = memory-in 9 s d x
+line-in (Read row s d) x a b = memory-in row s d x
 
 pub entry-in : (read : ℕ → ℕ) (at : ℕ) (double : Bool) → InTable (entryAt read at double .line)
 unfolding entryAt entryFor
@@ -64,4 +99,4 @@ entry-in read at double = go (decodeAt read at false)
   where
     go : (x : Decoded) → InTable (entryOf x double (read (wrapAdd at 1)) (read (wrapAdd at 2)) .line)
     go Unspecified = lit< tt
-    go (Known i) = line-in i (operandOf (rowOf i double .words) (read (wrapAdd at 1)) (read (wrapAdd at 2))) (read (wrapAdd at 1)) (read (wrapAdd at 2))
+    go (Known i) = line-in i (lineOperand (rowOf i double .words) (read (wrapAdd at 1)) (read (wrapAdd at 2))) (read (wrapAdd at 1)) (read (wrapAdd at 2))

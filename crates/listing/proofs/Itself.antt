@@ -7,8 +7,8 @@ use native.Mathlib.Omega.{arith}
 use lib.Dec.{eqb}
 use lib.ListN.{length, getD}
 use Rattle.word.specs.Word.{wrapAdd}
-use Rattle.memory.specs.Memory.{peekOf}
-use Rattle.decode.specs.Decode.{opcodeOf}
+use Rattle.memory.specs.Bus.{busOf, readOf}
+use Rattle.decode.specs.Fields.{opcodeOf}
 use Rattle.listing.specs.declared.entry.Entry.{Entry}
 use Rattle.listing.specs.Rows.{codes, rows, templateOf}
 use Rattle.listing.specs.Line.{lineWith, glyphOf, textOf}
@@ -34,22 +34,22 @@ module _ (text : List ℕ) (double : Bool) (ws : List ℕ) (e : assembleOf text 
   from = found text double ws e
 
   abbrev w : ℕ
-  w = opcodeOf (peekOf (from .memory) 0)
+  w = opcodeOf (readOf (busOf (from .memory)) 0)
 
   abbrev a : ℕ
-  a = peekOf (from .memory) (wrapAdd 0 1)
+  a = readOf (busOf (from .memory)) (wrapAdd 0 1)
 
   abbrev b : ℕ
-  b = peekOf (from .memory) (wrapAdd 0 2)
+  b = readOf (busOf (from .memory)) (wrapAdd 0 2)
 
-  listed : entryAt (peekOf (from .memory)) 0 double ≡ entryWith w a b double
-  listed = entry-with (peekOf (from .memory)) 0 double
+  listed : entryAt (readOf (busOf (from .memory))) 0 double ≡ entryWith w a b double
+  listed = entry-with (readOf (busOf (from .memory))) 0 double
 
   its-text : textOf (entryWith w a b double .line) ≡ text
   its-text = ap (λ (x : Entry). textOf (x .line)) (sym listed) ∙ from .line
 
   its-words : ws ≡ cutWith w a b double
-  its-words = from .cut ∙ cut-with (peekOf (from .memory)) 0 double
+  its-words = from .cut ∙ cut-with (readOf (busOf (from .memory))) 0 double
 
   count : length ws ≡ entryWith w a b double .words
   count = ap length its-words ∙ cut-length w a b double (omega arith) .1

@@ -6,13 +6,16 @@ use mathlib.Core.List.{[], _∷_}
 use native.Mathlib.Omega.{arith}
 use lib.Dec.{T, eqb, leb, eqb→eq}
 use borrow.Author.Tests.{eqb-true, eqb-false, lt-ltb, le-ltb, le-leb}
+use Rattle.word.proofs.Choice.{cond-either}
+use Rattle.decode.specs.Fields.{jumpTarget}
 use Rattle.listing.specs.Rows.{rows, templateOf, baseOf}
 use Rattle.listing.specs.declared.line.Line.{Line}
 use Rattle.listing.specs.Line.{lineWith, digitOf, signOf, fieldOf, glyphOf, textOf}
 use Rattle.listing.specs.Disassemble.{jumpLine}
-use Rattle.listing.specs.Assemble.{valueOf, takenOf, readOf, jumpWord, jumpWords, wordsOf, cutOf}
-use Rattle.listing.proofs.Tests.{truth, below, below-at, both-left, both-right, imp, imp-at, clash, cond-cases}
+use Rattle.listing.specs.Assemble.{valueOf, withSymbol, lineRead, jumpWord, jumpWords, encoded, cutWords}
+use Rattle.listing.proofs.Tests.{truth, below, below-at, both-left, both-right, imp, imp-at, clash}
 use Rattle.listing.proofs.Table.{occurs}
+use Rattle.listing.proofs.Entries.{jump-line}
 use Rattle.listing.proofs.Back.{backs, read-back}
 use Rattle.listing.proofs.EntryWith.{entryWith, cutWith, Trip}
 
@@ -32,20 +35,20 @@ abbrev calls-back : ℕ → Bool
 calls-back k = backs (82 + k / 4) 0 (k % 4 + 4) && occurs 119 (templateOf (82 + k / 4))
 
 goes-test : T (below goes-back 3)
-unfolding readOf takenOf valueOf textOf glyphOf fieldOf digitOf signOf templateOf rows
+unfolding lineRead withSymbol valueOf textOf glyphOf fieldOf digitOf signOf templateOf rows
 goes-test = tt
 
 calls-test : T (below calls-back 12)
-unfolding readOf takenOf valueOf textOf glyphOf fieldOf digitOf signOf templateOf rows
+unfolding lineRead withSymbol valueOf textOf glyphOf fieldOf digitOf signOf templateOf rows
 calls-test = tt
 
-goes : (e x : ℕ) → e < 3 → x < 65536 → readOf (79 + e) (textOf (lineWith (79 + e) 0 0 x)) ≡ lineWith (79 + e) 0 0 x
+goes : (e x : ℕ) → e < 3 → x < 65536 → lineRead (79 + e) (textOf (lineWith (79 + e) 0 0 x)) ≡ lineWith (79 + e) 0 0 x
 goes e x h k =
     let t = below-at goes-back 3 goes-test e h in
     read-back (79 + e) 0 0 x (omega arith) (both-left (backs (79 + e) 0 0) (occurs 119 (templateOf (79 + e))) t) k
     (λ f. clash (truth (occurs 119 (templateOf (79 + e))) (both-right (backs (79 + e) 0 0) (occurs 119 (templateOf (79 + e))) t)) f)
 
-calls : (e r x : ℕ) → e < 3 → r < 4 → x < 65536 → readOf (82 + e) (textOf (lineWith (82 + e) 0 (r + 4) x)) ≡ lineWith (82 + e) 0 (r + 4) x
+calls : (e r x : ℕ) → e < 3 → r < 4 → x < 65536 → lineRead (82 + e) (textOf (lineWith (82 + e) 0 (r + 4) x)) ≡ lineWith (82 + e) 0 (r + 4) x
 calls e r x h l k =
     let i : (e * 4 + r) / 4 ≡ e = omega arith in
     let j : (e * 4 + r) % 4 ≡ r = omega arith in
@@ -53,14 +56,14 @@ calls e r x h l k =
     read-back (82 + e) 0 (r + 4) x (omega arith) (both-left (backs (82 + e) 0 (r + 4)) (occurs 119 (templateOf (82 + e))) t) k
     (λ f. clash (truth (occurs 119 (templateOf (82 + e))) (both-right (backs (82 + e) 0 (r + 4)) (occurs 119 (templateOf (82 + e))) t)) f)
 
-none : readOf 85 (textOf (lineWith 85 0 0 0)) ≡ lineWith 85 0 0 0
-unfolding readOf takenOf textOf glyphOf templateOf rows
+none : lineRead 85 (textOf (lineWith 85 0 0 0)) ≡ lineWith 85 0 0 0
+unfolding lineRead withSymbol textOf glyphOf templateOf rows
 none = refl
 
 module _ (a b : ℕ) (double : Bool) where
   -- bits 3: any second word that ends in them
   pub trip-none : eqb (a % 4) 3 ≡ true → Trip 4 a b double
-  unfolding entryWith cutWith cutOf wordsOf jumpWords jumpWord baseOf rows
+  unfolding entryWith cutWith cutWords encoded jumpWords jumpWord baseOf rows
   trip-none f =
       record {
         p = 3;
@@ -73,23 +76,26 @@ module _ (a b : ℕ) (double : Bool) where
       }
 
   abbrev address : ℕ
-  address = a / 4 % 64 * 1024 + b % 1024
+  address = jumpTarget a b
 
   high : address / 1024 ≡ a / 4 % 64
+  unfolding jumpTarget
   high = omega arith
 
   low : address % 1024 ≡ b % 1024
+  unfolding jumpTarget
   low = omega arith
 
   word-16 : address < 65536
+  unfolding jumpTarget
   word-16 = omega arith
 
   module _ (f : eqb (a % 4) 3 ≡ false) where
     e-3 : a % 4 < 3
     e-3 = let n = eqb-false (a % 4) 3 f in omega arith
 
-    away-words : eqb (a / 256 % 4) 3 ≡ true → wordsOf (lineWith (79 + a % 4) 0 0 address) double ≡ 4 ∷ a % 1024 ∷ b % 1024 ∷ []
-    unfolding wordsOf jumpWords jumpWord
+    away-words : eqb (a / 256 % 4) 3 ≡ true → encoded (lineWith (79 + a % 4) 0 0 address) double ≡ 4 ∷ a % 1024 ∷ b % 1024 ∷ []
+    unfolding encoded jumpWords jumpWord
     away-words g =
         let l = e-3 in
         let r : a / 256 % 4 ≡ 3 = eqb-true (a / 256 % 4) 3 g in
@@ -103,8 +109,8 @@ module _ (a b : ℕ) (double : Bool) where
           m,
         )
 
-    call-words : eqb (a / 256 % 4) 3 ≡ false → wordsOf (lineWith (82 + a % 4) 0 (a / 256 % 4 + 4) address) double ≡ 4 ∷ a % 1024 ∷ b % 1024 ∷ []
-    unfolding wordsOf jumpWords jumpWord
+    call-words : eqb (a / 256 % 4) 3 ≡ false → encoded (lineWith (82 + a % 4) 0 (a / 256 % 4 + 4) address) double ≡ 4 ∷ a % 1024 ∷ b % 1024 ∷ []
+    unfolding encoded jumpWords jumpWord
     call-words g =
         let l = e-3 in
         let m : (a / 256 % 4 + 4) % 4 * 256 + (82 + a % 4 - 82) + a / 4 % 64 * 4 ≡ a % 1024 = omega arith in
@@ -117,20 +123,20 @@ module _ (a b : ℕ) (double : Bool) where
           m,
         )
 
-    jump-words : wordsOf (jumpLine a b) double ≡ 4 ∷ a % 1024 ∷ b % 1024 ∷ []
-    unfolding jumpLine
+    jump-words : encoded (jumpLine a b) double ≡ 4 ∷ a % 1024 ∷ b % 1024 ∷ []
     jump-words =
-        cond-cases (λ (l : Line). wordsOf l double ≡ 4 ∷ a % 1024 ∷ b % 1024 ∷ []) (eqb (a / 256 % 4) 3) away-words call-words
+        rw (jump-line a b)
+        (cond-either (λ (l : Line). encoded l double ≡ 4 ∷ a % 1024 ∷ b % 1024 ∷ []) (eqb (a / 256 % 4) 3) away-words call-words)
 
-    jump-back : readOf (jumpLine a b .row) (textOf (jumpLine a b)) ≡ jumpLine a b
-    unfolding jumpLine
+    jump-back : lineRead (jumpLine a b .row) (textOf (jumpLine a b)) ≡ jumpLine a b
     jump-back =
-        cond-cases (λ (l : Line). readOf (l .row) (textOf l) ≡ l) (eqb (a / 256 % 4) 3)
+        rw (jump-line a b)
+        (cond-either (λ (l : Line). lineRead (l .row) (textOf l) ≡ l) (eqb (a / 256 % 4) 3)
         (λ g. goes (a % 4) address e-3 word-16)
-        (λ g. calls (a % 4) (a / 256 % 4) address e-3 (omega arith) word-16)
+        (λ g. calls (a % 4) (a / 256 % 4) address e-3 (omega arith) word-16))
 
     cut-jump : jumpLine (a % 1024) (b % 1024) ≡ jumpLine a b
-    unfolding jumpLine
+    unfolding jumpTarget
     cut-jump =
         let d : a / 256 ≡ a / 1024 * 4 + a % 1024 / 256 = omega arith in
         let i : a % 1024 / 256 % 4 ≡ a / 256 % 4 = rw d (omega arith) in
@@ -138,14 +144,14 @@ module _ (a b : ℕ) (double : Bool) where
         let g : a / 4 ≡ a / 1024 * 256 + a % 1024 / 4 = omega arith in
         let k : a % 1024 / 4 % 64 ≡ a / 4 % 64 = rw g (omega arith) in
         let l : b % 1024 % 1024 ≡ b % 1024 = omega arith in
-        rw (i, j, k, l)
+        rw (jump-line (a % 1024) (b % 1024), jump-line a b, i, j, k, l)
 
     pub jump-again : entryWith 4 (a % 1024) (b % 1024) double ≡ entryWith 4 a b double
     unfolding entryWith
     jump-again = let j : a % 1024 % 4 ≡ a % 4 = omega arith in rw (j, f, cut-jump)
 
     pub trip-jump : Trip 4 a b double
-    unfolding entryWith cutWith cutOf
+    unfolding entryWith cutWith cutWords
     trip-jump =
         let j : a % 1024 % 4 ≡ a % 4 = omega arith in
         let k : a % 1024 % 1024 ≡ a % 1024 = omega arith in

@@ -3,29 +3,37 @@ use Prim.Native.Nat.{ℕ, suc, _+_, _*_, _/_, _%_, _<_}
 use mathlib.Core.Path.{_≡_, refl, ap}
 use mathlib.Core.Bool.{Bool, true, false, cond, not, _&&_, _||_}
 use native.Mathlib.Omega.{arith}
-use lib.Dec.{T, eqb, leb, ltb, eqb→eq, leb→le}
-use Rattle.memory.specs.Memory.{peekOf}
+use mathlib.Core.List.{[], _∷_}
+use lib.Dec.{T, eqb, ltb, eqb→eq, leb→le, lit<}
+use Rattle.memory.proofs.BusLaws.{read-within}
 use Rattle.decode.specs.declared.Instr.{Instr}
-use Rattle.decode.specs.declared.Instr.the-variants.{Control, Single, Shift, Branch, Store, Operate}
-use Rattle.decode.specs.Decode.{instructionOf, lowInstruction, unspecifiedOf, decodeAt}
-use Rattle.decode.specs.Rows.{heardRow, unheardRow, controlRow, shiftRow, branchRow, memoryWords, storeRow, readWords, operateRow, rowOf}
+use Rattle.decode.specs.declared.Instr.the-variants.{Hlt, Control, Jump, Single, Gswd, Nop, Sin, Shift, Register, Branch, Store, Read}
+use Rattle.decode.specs.Fields.{isExternal, inputNumber}
+use Rattle.decode.specs.Decode.{controlInstruction, statusInstruction, lowInstruction, instructionOf, isUnspecified, decodeAt}
+use Rattle.decode.specs.Rows.{interruptibleEntry, plainEntry, haltEntry, controlEntry, jumpEntry, registerEntry, shiftEntry, branchEntry, memoryWords, storeEntry, readWords, readEntry, rowOf}
 use Rattle.listing.specs.Rows.{rows, templateOf, baseOf}
 use Rattle.listing.specs.declared.line.Line.{Line}
 use Rattle.listing.specs.Line.{lineWith, digitOf, signOf, fieldOf, glyphOf, textOf}
-use Rattle.listing.specs.Disassemble.{controlLine, singleLine, shiftLine, branchLine, memoryLine, operateLine, lineOf}
-use Rattle.listing.specs.Assemble.{valueOf, takenOf, readOf, wordCount}
-use Rattle.listing.proofs.Tests.{below, below-at, both-left, both-right, imp, imp-at}
+use Rattle.listing.specs.Disassemble.{controlLine, singleLine, shiftLine, branchSign, branchLine, memoryLine, registerLine, lineOf}
+use Rattle.listing.specs.Assemble.{valueOf, withSymbol, lineRead, wordCount}
+use Rattle.listing.proofs.Tests.{below, below-at, both-left, both-right, imp, imp-at, clash}
 use Rattle.listing.proofs.Table.{occurs}
 use Rattle.listing.proofs.Back.{backs}
 
 -- a jump's opcode is 004 alone
 abbrev isJump : Instr → Bool
-isJump (Control d) = eqb d 4
+isJump Hlt = false
+isJump (Control d) = false
+isJump Jump = true
 isJump (Single s d) = false
+isJump (Gswd d) = false
+isJump (Nop n) = false
+isJump (Sin n) = false
 isJump (Shift s d) = false
+isJump (Register row s d) = false
 isJump (Branch b) = false
 isJump (Store s d) = false
-isJump (Operate k s d) = false
+isJump (Read row s d) = false
 
 -- of any other instruction the words after the opcode count only through the operand
 unfoldable pub withOperand : Line → ℕ → Line
@@ -36,27 +44,34 @@ chosen : (c : Bool) (l m : ℕ → Line) (x : ℕ) → l x ≡ withOperand (l 0)
 chosen true l m x p q = p
 chosen false l m x p q = q
 
-memory-shape : (k s d x : ℕ) → memoryLine k s d x ≡ withOperand (memoryLine k s d 0) x
+control-shape : (d x : ℕ) → controlLine d x ≡ withOperand (controlLine d 0) x
+unfolding controlLine withOperand
+control-shape d x = chosen (ltb d 4) (λ y. lineWith d 0 0 y) (λ y. lineWith ((d % 8 + 7) % 8) 0 0 y) x refl refl
+
+memory-shape : (row s d x : ℕ) → memoryLine row s d x ≡ withOperand (memoryLine row s d 0) x
 unfolding memoryLine withOperand
-memory-shape k s d x =
-    chosen (eqb s 0) (λ y. lineWith (55 + k % 8 * 3) 0 d y)
-    (λ y. cond (eqb s 7) (lineWith (55 + k % 8 * 3 + 2) 0 d y) (lineWith (55 + k % 8 * 3 + 1) s d y))
+memory-shape row s d x =
+    chosen (eqb s 0) (λ y. lineWith (55 + row % 8 * 3) 0 d y)
+    (λ y. cond (eqb s 7) (lineWith (55 + row % 8 * 3 + 2) 0 d y) (lineWith (55 + row % 8 * 3 + 1) s d y))
     x refl
-    (chosen (eqb s 7) (λ y. lineWith (55 + k % 8 * 3 + 2) 0 d y) (λ y. lineWith (55 + k % 8 * 3 + 1) s d y) x refl refl)
+    (chosen (eqb s 7) (λ y. lineWith (55 + row % 8 * 3 + 2) 0 d y) (λ y. lineWith (55 + row % 8 * 3 + 1) s d y) x refl refl)
 
 line-shape : (i : Instr) (x a b : ℕ) → isJump i ≡ false → lineOf i x a b ≡ withOperand (lineOf i 0 0 0) x
-unfolding controlLine singleLine shiftLine branchLine operateLine withOperand
-line-shape (Control d) x a b e =
-    rw e (chosen (ltb d 4) (λ y. lineWith d 0 0 y) (λ y. lineWith ((d % 8 + 7) % 8) 0 0 y) x refl refl)
-line-shape (Single s d) x a b e =
-    chosen (eqb s 6 && leb 4 d) (λ y. lineWith (14 + d % 4) 0 0 y) (λ y. lineWith (6 + s % 8) 0 d y) x refl refl
+unfolding singleLine shiftLine branchLine registerLine withOperand
+line-shape Hlt x a b e = control-shape 0 x
+line-shape (Control d) x a b e = control-shape d x
+line-shape Jump x a b e = clash refl e
+line-shape (Single s d) x a b e = refl
+line-shape (Gswd d) x a b e = refl
+line-shape (Nop n) x a b e = refl
+line-shape (Sin n) x a b e = refl
 line-shape (Shift s d) x a b e = refl
+line-shape (Register row s d) x a b e = refl
 line-shape (Branch c) x a b e =
-    chosen (eqb (c / 16 % 2) 1) (λ y. lineWith (56 + c % 16 / 10) (c / 32 % 2 * 4) (c % 16 % 10) y)
-    (λ y. lineWith (40 + c % 16) (c / 32 % 2 * 4) 0 y) x refl refl
-line-shape (Store s d) x a b e = memory-shape 1 s d x
-line-shape (Operate k s d) x a b e =
-    chosen (ltb k 8) (λ y. lineWith (32 + k % 8) s d y) (λ y. memoryLine k s d y) x refl (memory-shape k s d x)
+    chosen (isExternal c) (λ y. lineWith (56 + inputNumber c / 10) (branchSign c) (inputNumber c % 10) y)
+    (λ y. lineWith (40 + c % 16) (branchSign c) 0 y) x refl refl
+line-shape (Store s d) x a b e = memory-shape 9 s d x
+line-shape (Read row s d) x a b e = memory-shape row s d x
 
 -- the row and the fields of an opcode
 unfoldable pub shape : ℕ → Line
@@ -79,7 +94,7 @@ rule w =
     && (counts w false && counts w true)))
 
 rule-test : T (below rule 1024)
-unfolding shape instructionOf lowInstruction controlLine singleLine shiftLine branchLine memoryLine operateLine controlRow heardRow unheardRow shiftRow branchRow memoryWords storeRow readWords operateRow baseOf readOf takenOf valueOf textOf glyphOf fieldOf digitOf signOf templateOf rows
+unfolding shape instructionOf lowInstruction controlInstruction statusInstruction controlLine singleLine shiftLine branchLine memoryLine registerLine interruptibleEntry plainEntry haltEntry controlEntry jumpEntry registerEntry shiftEntry branchEntry memoryWords storeEntry readWords readEntry baseOf lineRead withSymbol valueOf textOf glyphOf fieldOf digitOf signOf templateOf rows
 rule-test = tt
 
 module _ (w : ℕ) (h : w < 1024) (e : eqb w 4 ≡ false) where
@@ -119,8 +134,8 @@ module _ (w : ℕ) (h : w < 1024) (e : eqb w 4 ≡ false) where
 
   -- the opcode by itself is decoded as the instruction
   pub count-at : (double : Bool) → wordCount w double ≡ rowOf (instructionOf w) double .words
-  unfolding wordCount decodeAt unspecifiedOf peekOf
-  count-at double = let m : w % 1024 ≡ w = omega arith in rw (m, e)
+  unfolding wordCount decodeAt isUnspecified
+  count-at double = let m : w % 1024 ≡ w = omega arith in rw (read-within (w ∷ []) 0 (lit< tt), m, e)
 
   pub plain-line : (x a b : ℕ) → lineOf (instructionOf w) x a b ≡ withOperand (shape w) x
   unfolding shape

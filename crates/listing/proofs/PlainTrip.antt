@@ -7,16 +7,17 @@ use native.Mathlib.Omega.{arith}
 use lib.Dec.{T, eqb, lit<}
 use borrow.Author.Tests.{eqb-true, lt-leb}
 use Rattle.word.proofs.Choice.{cond-both}
+use Rattle.decode.specs.Fields.{joined}
 use Rattle.decode.specs.Decode.{instructionOf}
 use Rattle.decode.specs.Rows.{rowOf}
 use Rattle.listing.specs.Rows.{templateOf}
 use Rattle.listing.specs.Line.{textOf}
-use Rattle.listing.specs.Disassemble.{lineOf, operandOf, entryFor}
-use Rattle.listing.specs.Assemble.{readOf, plainWords, wordsOf, firstWords, cutOf}
+use Rattle.listing.specs.Disassemble.{lineOf, lineOperand, entryFor}
+use Rattle.listing.specs.Assemble.{lineRead, plainWords, encoded, firstWords, cutWords}
 use Rattle.listing.proofs.Tests.{truth, both-left, both-right, clash}
 use Rattle.listing.proofs.Table.{occurs}
 use Rattle.listing.proofs.Back.{read-back}
-use Rattle.listing.proofs.EntryWith.{entryWith, cutWith, plainEntry, Trip}
+use Rattle.listing.proofs.EntryWith.{entryWith, cutWith, rowEntry, Trip}
 use Rattle.listing.proofs.Opcodes.{count-at, counts-at, fields, opcode, plain-line, row-79, shape, withOperand}
 
 -- what holds of one, two and three words holds of a count that shows
@@ -36,7 +37,7 @@ second n x = cond (eqb n 3) (x % 256) x
 abbrev third : ℕ → ℕ → ℕ
 third n x = cond (eqb n 3) (x / 256) 0
 
-halves : (a b : ℕ) → ((b % 256 * 256 + a % 256) % 256 ≡ a % 256) × ((b % 256 * 256 + a % 256) / 256 ≡ b % 256)
+halves : (a b : ℕ) → ((a % 256 + b % 256 * 256) % 256 ≡ a % 256) × ((a % 256 + b % 256 * 256) / 256 ≡ b % 256)
 halves a b = (omega arith, omega arith)
 
 -- the words cut, where the opcode is not the jump's
@@ -44,35 +45,35 @@ abbrev pub plain-cut : ℕ → ℕ → ℕ → ℕ → List ℕ
 plain-cut n w a b = cond (eqb n 3) (w ∷ a % 256 ∷ b % 256 ∷ []) (w ∷ a ∷ b ∷ [])
 
 module _ (w a b n : ℕ) (c : Bool) (t : T (cond (eqb n 1) true (c && (eqb n 2 || eqb n 3)))) where
-  operand-again : operandOf n (second n (operandOf n a b)) (third n (operandOf n a b)) ≡ operandOf n a b
-  unfolding operandOf
+  operand-again : lineOperand n (second n (lineOperand n a b)) (third n (lineOperand n a b)) ≡ lineOperand n a b
+  unfolding lineOperand joined
   operand-again =
-      by-count (λ (n : ℕ). operandOf n (second n (operandOf n a b)) (third n (operandOf n a b)) ≡ operandOf n a b)
+      by-count (λ (n : ℕ). lineOperand n (second n (lineOperand n a b)) (third n (lineOperand n a b)) ≡ lineOperand n a b)
       refl refl (omega arith) n c t
 
-  first-again : firstWords (w ∷ second n (operandOf n a b) ∷ third n (operandOf n a b) ∷ []) n ≡ firstWords (plain-cut n w a b) n
-  unfolding operandOf
+  first-again : firstWords (w ∷ second n (lineOperand n a b) ∷ third n (lineOperand n a b) ∷ []) n ≡ firstWords (plain-cut n w a b) n
+  unfolding lineOperand joined
   first-again =
-      by-count (λ (n : ℕ). firstWords (w ∷ second n (operandOf n a b) ∷ third n (operandOf n a b) ∷ []) n ≡ firstWords (plain-cut n w a b) n)
+      by-count (λ (n : ℕ). firstWords (w ∷ second n (lineOperand n a b) ∷ third n (lineOperand n a b) ∷ []) n ≡ firstWords (plain-cut n w a b) n)
       refl refl (rw (halves a b .0, halves a b .1)) n c t
 
-  cut-again : firstWords (plain-cut n w (second n (operandOf n a b)) (third n (operandOf n a b))) n ≡ firstWords (plain-cut n w a b) n
-  unfolding operandOf
+  cut-again : firstWords (plain-cut n w (second n (lineOperand n a b)) (third n (lineOperand n a b))) n ≡ firstWords (plain-cut n w a b) n
+  unfolding lineOperand joined
   cut-again =
       let i : a % 256 % 256 ≡ a % 256 = omega arith in
       let j : b % 256 % 256 ≡ b % 256 = omega arith in
-      by-count (λ (n : ℕ). firstWords (plain-cut n w (second n (operandOf n a b)) (third n (operandOf n a b))) n ≡ firstWords (plain-cut n w a b) n)
+      by-count (λ (n : ℕ). firstWords (plain-cut n w (second n (lineOperand n a b)) (third n (lineOperand n a b))) n ≡ firstWords (plain-cut n w a b) n)
       refl refl (rw (halves a b .0, halves a b .1, i, j)) n c t
 
-operand-16 : (n a b : ℕ) → a < 65536 → operandOf n a b < 65536
-unfolding operandOf
+operand-16 : (n a b : ℕ) → a < 65536 → lineOperand n a b < 65536
+unfolding lineOperand joined
 operand-16 n a b h = cond-both (λ x. x < 65536) (eqb n 1) (lit< tt) (cond-both (λ x. x < 65536) (eqb n 2) h (omega arith))
 
-operand-0 : (n a b : ℕ) (c : Bool) → T (cond (eqb n 1) true (c && (eqb n 2 || eqb n 3))) → c ≡ false → operandOf n a b ≡ 0
-unfolding operandOf
+operand-0 : (n a b : ℕ) (c : Bool) → T (cond (eqb n 1) true (c && (eqb n 2 || eqb n 3))) → c ≡ false → lineOperand n a b ≡ 0
+unfolding lineOperand
 operand-0 n a b c t f = go (eqb n 1) refl t
   where
-    go : (i : Bool) → eqb n 1 ≡ i → T (cond i true (c && (eqb n 2 || eqb n 3))) → operandOf n a b ≡ 0
+    go : (i : Bool) → eqb n 1 ≡ i → T (cond i true (c && (eqb n 2 || eqb n 3))) → lineOperand n a b ≡ 0
     go true e t = rw e
     go false e t = clash (truth c (both-left c (eqb n 2 || eqb n 3) t)) f
 
@@ -81,13 +82,13 @@ module _ (w a b : ℕ) (double : Bool) (h : w < 1024) (e : eqb w 4 ≡ false) (k
   n = rowOf (instructionOf w) double .words
 
   abbrev x : ℕ
-  x = operandOf n a b
+  x = lineOperand n a b
 
   abbrev shows : Bool
   shows = occurs 119 (templateOf (shape w .row))
 
-  plain-words : wordsOf (lineOf (instructionOf w) x a b) double ≡ w ∷ second n x ∷ third n x ∷ []
-  unfolding wordsOf plainWords withOperand
+  plain-words : encoded (lineOf (instructionOf w) x a b) double ≡ w ∷ second n x ∷ third n x ∷ []
+  unfolding encoded plainWords withOperand
   plain-words =
       rw (
         plain-line w h e x a b,
@@ -101,16 +102,16 @@ module _ (w a b : ℕ) (double : Bool) (h : w < 1024) (e : eqb w 4 ≡ false) (k
       go true = refl
       go false = refl
 
-  plain-again : plainEntry w (second n x) (third n x) double ≡ plainEntry w a b double
+  plain-again : rowEntry w (second n x) (third n x) double ≡ rowEntry w a b double
   unfolding entryFor
   plain-again =
       rw (
-        plain-line w h e (operandOf n (second n x) (third n x)) (second n x) (third n x),
+        plain-line w h e (lineOperand n (second n x) (third n x)) (second n x) (third n x),
         plain-line w h e x a b,
         operand-again w a b n shows (counts-at w h e double),
       )
 
-  plain-back : readOf (lineOf (instructionOf w) x a b .row) (textOf (lineOf (instructionOf w) x a b)) ≡ lineOf (instructionOf w) x a b
+  plain-back : lineRead (lineOf (instructionOf w) x a b .row) (textOf (lineOf (instructionOf w) x a b)) ≡ lineOf (instructionOf w) x a b
   unfolding withOperand
   plain-back =
       rw (plain-line w h e x a b)
@@ -118,7 +119,7 @@ module _ (w a b : ℕ) (double : Bool) (h : w < 1024) (e : eqb w 4 ≡ false) (k
       (λ f. operand-0 n a b shows (counts-at w h e double) f))
 
   pub trip-plain : Trip w a b double
-  unfolding entryWith cutWith cutOf entryFor
+  unfolding entryWith cutWith cutWords entryFor
   trip-plain =
       record {
         p = second n x;

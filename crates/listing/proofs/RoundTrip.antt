@@ -1,26 +1,28 @@
 -- The laws that join listing and assembling: (a), (c), (d) and (f) of `specs/Laws`.
-use Prim.Native.Nat.{ℕ, zero, suc, _%_, _<_, _≤_}
+use Prim.Native.Nat.{ℕ, zero, suc, _%_, _<_}
 use mathlib.Core.Path.{_≡_, refl, sym, ap, _∙_, subst}
 use mathlib.Core.Bool.{Bool, true, false}
 use mathlib.Core.List.{List, [], _∷_}
 use native.Mathlib.Omega.{arith}
 use lib.Dec.{eqb, lit<}
 use lib.ListN.{getD}
-use borrow.Author.Tests.{eqb-true, eq-eqb, le-ltb}
+use borrow.Author.Tests.{eqb-true, eq-eqb}
 use Rattle.refusal.specs.declared.Refusal.the-variants.{NotAListingLine}
 use Rattle.refusal.specs.Refusals.{refusalNumber}
 use Rattle.word.specs.Word.{wrapAdd}
 use Rattle.word.proofs.Choice.{cond-both}
-use Rattle.memory.specs.Memory.{peekOf, Words}
-use Rattle.decode.specs.declared.Instr.the-variants.{Control, Operate}
-use Rattle.decode.specs.Decode.{opcodeOf, instructionOf, lowInstruction}
-use Rattle.decode.specs.Rows.{heardRow, readWords, operateRow}
+use Rattle.memory.specs.Bus.{busOf, readOf}
+use Rattle.memory.specs.Laws.{BusWords}
+use Rattle.decode.specs.declared.Instr.the-variants.{Jump, Read}
+use Rattle.decode.specs.Fields.{opcodeOf}
+use Rattle.decode.specs.Decode.{controlInstruction, lowInstruction, instructionOf}
+use Rattle.decode.specs.Rows.{interruptibleEntry, readWords, readEntry}
 use Rattle.listing.specs.declared.entry.Entry.{Entry}
 use Rattle.listing.specs.Line.{textOf, sameText}
 use Rattle.listing.specs.Inner.{keyOf}
 use Rattle.listing.specs.Answer.{rejected, assembled}
 use Rattle.listing.specs.Disassemble.{entryFor, entryAt, textAt}
-use Rattle.listing.specs.Assemble.{readOf, wordsOf, firstWords, cutOf, cutAt, memoryAs, assembleOf}
+use Rattle.listing.specs.Assemble.{lineRead, encoded, firstWords, cutWords, cutAt, memoryAs, assembleOf}
 use Rattle.listing.specs.Laws.{ListedComesBack, AcceptsListedLines, SameLineSameWords, AssembledIsCut}
 use Rattle.listing.proofs.Tests.{same-true, same-eq}
 use Rattle.listing.proofs.Entries.{entry-in}
@@ -36,14 +38,14 @@ comes-back read at double word =
     assembled-by (textOf line) double (line .row) low (own-row line low) same ∙ ap assembled (self-cut read at double word)
 
 pub listed-comes-back : ListedComesBack
-listed-comes-back m at double words = comes-back (peekOf m) at double (words (wrapAdd at 1))
+listed-comes-back b at double words = comes-back (readOf b) at double (words (wrapAdd at 1))
 
 -- what is assembled comes from words that list as the text
 pub record Found (text : List ℕ) (double : Bool) (ws : List ℕ) : Type 0 where
   pub memory : List ℕ
-  pub fits : Words memory
-  pub line : textAt (peekOf memory) 0 double ≡ text
-  pub cut : ws ≡ cutAt (peekOf memory) 0 double
+  pub fits : BusWords (busOf memory)
+  pub line : textAt (readOf (busOf memory)) 0 double ≡ text
+  pub cut : ws ≡ cutAt (readOf (busOf memory)) 0 double
 
 pub found : (text : List ℕ) (double : Bool) (ws : List ℕ) → assembleOf text double ≡ assembled ws → Found text double ws
 found text double ws e = go (sameText (textAt (memoryAs g text double) 0 double) text) refl
@@ -55,7 +57,7 @@ found text double ws e = go (sameText (textAt (memoryAs g text double) 0 double)
     go true f =
         let a : assembled (cutAt (memoryAs g text double) 0 double) ≡ assembled ws = sym (assembled-by text double g (guess-in text) (guesses text) f) ∙ e in
         record {
-          memory = wordsOf (readOf g text) double;
+          memory = encoded (lineRead g text) double;
           fits = read-words g text double (guess-in text);
           line = same-eq (textAt (memoryAs g text double) 0 double) text f;
           cut = cc;
@@ -69,14 +71,14 @@ pub accepts-listed-lines : AcceptsListedLines
 accepts-listed-lines =
     record {
       only = λ text double ws e. let f = found text double ws e in (f .memory, (f .fits, f .line));
-      every = λ text double m at words e. (cutAt (peekOf m) at double, subst (λ (t : List ℕ). assembleOf t double ≡ assembled (cutAt (peekOf m) at double)) e (listed-comes-back m at double words));
+      every = λ text double b at words e. (cutAt (readOf b) at double, subst (λ (t : List ℕ). assembleOf t double ≡ assembled (cutAt (readOf b) at double)) e (listed-comes-back b at double words));
     }
 
 pub same-line-same-words : SameLineSameWords
-same-line-same-words m n at to double wm wn e =
-    let p = listed-comes-back m at double wm in
-    let q = listed-comes-back n to double wn in
-    let r : assembled (cutAt (peekOf m) at double) ≡ assembled (cutAt (peekOf n) to double) = sym p ∙ ap (λ (t : List ℕ). assembleOf t double) e ∙ q in
+same-line-same-words b c at to double wb wc e =
+    let p = listed-comes-back b at double wb in
+    let q = listed-comes-back c to double wc in
+    let r : assembled (cutAt (readOf b) at double) ≡ assembled (cutAt (readOf c) to double) = sym p ∙ ap (λ (t : List ℕ). assembleOf t double) e ∙ q in
     cc
 
 -- of three words the first is kept, and a bound of all
@@ -107,7 +109,7 @@ three-low w a b n h k l =
 
 module _ (w a b : ℕ) (double : Bool) (h : w < 1024) where
   pub cut-first : getD (cutWith w a b double) 0 0 ≡ w
-  unfolding cutWith cutOf
+  unfolding cutWith cutWords
   cut-first =
       let n = entryWith w a b double .words in
       let P : List ℕ → Type 0 = λ ws. getD (firstWords ws n) 0 0 ≡ w in
@@ -115,35 +117,35 @@ module _ (w a b : ℕ) (double : Bool) (h : w < 1024) where
       (cond-both P (eqb n 3) (first-kept w (a % 256) (b % 256) n) (first-kept w a b n))
 
   cut-jump : w ≡ 4 → (i : ℕ) → getD (cutWith w a b double) i 0 < 1024
-  unfolding cutWith cutOf
+  unfolding cutWith cutWords
   cut-jump e i =
       rw (eq-eqb w 4 e)
       (three-low w (a % 1024) (b % 1024) (entryWith w a b double .words) h (omega arith) (omega arith) i)
 
-  module _ (k d : ℕ) (set : double ≡ true) (is : instructionOf w ≡ Operate k 7 d) (read : 8 ≤ k) where
+  module _ (row d : ℕ) (set : double ≡ true) (is : instructionOf w ≡ Read row 7 d) where
     no-4 : eqb w 4 ≡ false
-    unfolding instructionOf lowInstruction
+    unfolding instructionOf lowInstruction controlInstruction
     no-4 = go (eqb w 4) refl
       where
         go : (c : Bool) → eqb w 4 ≡ c → eqb w 4 ≡ false
         go true e =
-            let j : Control 4 ≡ Operate k 7 d = sym (ap instructionOf (eqb-true w 4 e)) ∙ is in
+            let j : Jump ≡ Read row 7 d = sym (ap instructionOf (eqb-true w 4 e)) ∙ is in
             let z : _≡_ {A = ℕ} 0 1 = cc in
             absurd (omega arith)
         go false e = e
 
     counted : entryWith w a b double .words ≡ 3
-    unfolding entryWith entryFor operateRow heardRow readWords
-    counted = rw (no-4, is, set, le-ltb k 8 read)
+    unfolding entryWith entryFor readEntry interruptibleEntry readWords
+    counted = rw (no-4, is, set)
 
     cut-immediate : cutWith w a b double ≡ w ∷ a % 256 ∷ b % 256 ∷ []
-    unfolding cutWith cutOf
+    unfolding cutWith cutWords
     cut-immediate = rw (counted, no-4)
 
 pub assembled-is-cut : AssembledIsCut
 assembled-is-cut text double ws e =
     let f = found text double ws e in
-    let r = peekOf (f .memory) in
+    let r = readOf (busOf (f .memory)) in
     let w = opcodeOf (r 0) in
     let a = r (wrapAdd 0 1) in
     let b = r (wrapAdd 0 2) in
@@ -151,7 +153,7 @@ assembled-is-cut text double ws e =
     let first : getD ws 0 0 ≡ w = ap (λ (l : List ℕ). getD l 0 0) c ∙ cut-first w a b double (omega arith) in
     record {
       opcode = rw first (omega arith);
-      jump = λ j i. rw c (cut-jump w a b double (omega arith) (sym first ∙ j) i);
-      immediate = λ k d set is read.
-          rw (c ∙ cut-immediate w a b double (omega arith) k d set (rw first at is) read) (refl, (omega arith, omega arith));
+      jump-words = λ j i. rw c (cut-jump w a b double (omega arith) (sym first ∙ j) i);
+      immediate = λ row d set is.
+          rw (c ∙ cut-immediate w a b double (omega arith) row d set (rw first at is)) (refl, (omega arith, omega arith));
     }

@@ -1,5 +1,5 @@
 -- (e) of `specs/Laws`: words used and next D are those of the row table.
-use Prim.Native.Nat.{ℕ, _%_, _<_}
+use Prim.Native.Nat.{ℕ, _<_}
 use mathlib.Core.Path.{_≡_, refl, sym, ap, _∙_}
 use mathlib.Core.Bool.{Bool, true, false, cond, _&&_}
 use native.Mathlib.Omega.{arith}
@@ -8,8 +8,9 @@ use borrow.Author.Tests.{eq-eqb}
 use Rattle.word.specs.Word.{wrapAdd}
 use Rattle.decode.specs.declared.Instr.{Instr}
 use Rattle.decode.specs.declared.Decoded.the-variants.{Unspecified, Known}
-use Rattle.decode.specs.Decode.{opcodeOf, fieldS, lowInstruction, instructionOf, unspecifiedOf, decodeAt}
-use Rattle.decode.specs.Rows.{heardRow, unheardRow, controlRow, shiftRow, branchRow, memoryWords, storeRow, readWords, operateRow, rowOf}
+use Rattle.decode.specs.Fields.{opcodeOf, fieldS, jumpBits}
+use Rattle.decode.specs.Decode.{controlInstruction, statusInstruction, lowInstruction, instructionOf, isUnspecified, decodeAt}
+use Rattle.decode.specs.Rows.{interruptibleEntry, plainEntry, haltEntry, controlEntry, jumpEntry, registerEntry, shiftEntry, branchEntry, memoryWords, storeEntry, readWords, readEntry, rowOf}
 use Rattle.listing.specs.declared.entry.Entry.{Entry}
 use Rattle.listing.specs.Disassemble.{entryFor, entryAt}
 use Rattle.listing.specs.Laws.{EveryRowFollows}
@@ -28,13 +29,13 @@ module _ (read : ℕ → ℕ) (at : ℕ) where
   w = opcodeOf (read at)
 
   abbrev ends : Bool
-  ends = eqb (read (wrapAdd at 1) % 4) 3
+  ends = eqb (jumpBits (read (wrapAdd at 1))) 3
 
   abbrev stacked : Bool
   stacked = leb 0x280 w && eqb (fieldS w) 6
 
   decoded : (double : Bool) → decodeAt read at double ≡ cond (cond (eqb w 4) ends (double && stacked)) Unspecified (Known (instructionOf w))
-  unfolding decodeAt unspecifiedOf
+  unfolding decodeAt isUnspecified
   decoded double = refl
 
   is-known : (double : Bool) (i : Instr) → decodeAt read at double ≡ Known i → i ≡ instructionOf w
@@ -57,9 +58,9 @@ module _ (read : ℕ → ℕ) (at : ℕ) where
   unfolding entryAt entryFor Follows
   entry-of double i e = rw e (refl, refl)
 
-  jump-entry : (double : Bool) → w ≡ 4 → read (wrapAdd at 1) % 4 ≡ 3 → (entryAt read at double .words ≡ 1) × (entryAt read at double .double ≡ false)
+  jump-entry : (double : Bool) → w ≡ 4 → jumpBits (read (wrapAdd at 1)) ≡ 3 → (entryAt read at double .words ≡ 1) × (entryAt read at double .double ≡ false)
   unfolding entryAt
-  jump-entry double e f = rw (decoded false, eq-eqb w 4 e, eq-eqb (read (wrapAdd at 1) % 4) 3 f) (refl, refl)
+  jump-entry double e f = rw (decoded false, eq-eqb w 4 e, eq-eqb (jumpBits (read (wrapAdd at 1))) 3 f) (refl, refl)
 
   -- only a stack read is unspecified under D and known without it
   is-stacked : (double : Bool) (i : Instr) → decodeAt read at double ≡ Unspecified → decodeAt read at false ≡ Known i → (double ≡ true) × (stacked ≡ true)
@@ -91,7 +92,7 @@ alike w =
     && same-bool (rowOf (instructionOf w) true .double) (rowOf (instructionOf w) false .double))
 
 alike-test : T (below alike 1024)
-unfolding instructionOf lowInstruction controlRow heardRow unheardRow shiftRow branchRow memoryWords storeRow readWords operateRow
+unfolding instructionOf lowInstruction controlInstruction statusInstruction interruptibleEntry plainEntry haltEntry controlEntry jumpEntry registerEntry shiftEntry branchEntry memoryWords storeEntry readWords readEntry
 alike-test = tt
 
 stack-alike : (w : ℕ) → w < 1024 → (leb 0x280 w && eqb (fieldS w) 6) ≡ true
@@ -118,6 +119,6 @@ unfolding Follows
 every-row-follows read at double =
     record {
       known = λ i e. entry-of read at double i (clear read at double i e);
-      jump = λ e f. jump-entry read at double e f;
+      jump-bits = λ e f. jump-entry read at double e f;
       stack = λ i e f. stack-entry read at double i e f;
     }

@@ -7,11 +7,12 @@ use native.Mathlib.Omega.{arith}
 use lib.Dec.{eqb, T, lit<, lit≤}
 use lib.ListN.{length, getD}
 use borrow.Author.Tests.{eqb-true}
+use Rattle.decode.specs.Fields.{joined}
 use Rattle.decode.specs.Decode.{instructionOf}
 use Rattle.decode.specs.Rows.{rowOf}
 use Rattle.listing.specs.Rows.{templateOf}
-use Rattle.listing.specs.Disassemble.{operandOf, entryFor}
-use Rattle.listing.specs.Assemble.{firstWords, cutOf}
+use Rattle.listing.specs.Disassemble.{lineOperand, entryFor}
+use Rattle.listing.specs.Assemble.{firstWords, cutWords}
 use Rattle.listing.proofs.Table.{occurs}
 use Rattle.listing.proofs.EntryWith.{entryWith, cutWith, Trip}
 use Rattle.listing.proofs.JumpTrip.{jump-again, trip-jump, trip-none}
@@ -33,10 +34,10 @@ pub record Agree (n p q : ℕ) (ws : List ℕ) : Type 0 where
   pub third : 2 < n → q ≡ getD ws 2 0
 
 same-operand : (w a b p q n : ℕ) (c : Bool) → T (cond (eqb n 1) true (c && (eqb n 2 || eqb n 3)))
-    → Agree n p q (firstWords (plain-cut n w a b) n) → operandOf n p q ≡ operandOf n a b
-unfolding operandOf
+    → Agree n p q (firstWords (plain-cut n w a b) n) → lineOperand n p q ≡ lineOperand n a b
+unfolding lineOperand joined
 same-operand w a b p q n c t =
-    by-count (λ (n : ℕ). Agree n p q (firstWords (plain-cut n w a b) n) → operandOf n p q ≡ operandOf n a b)
+    by-count (λ (n : ℕ). Agree n p q (firstWords (plain-cut n w a b) n) → lineOperand n p q ≡ lineOperand n a b)
     (λ s. refl)
     (λ s. s .second (lit< tt))
     (λ s. let i : p ≡ a % 256 = s .second (lit< tt) in let j : q ≡ b % 256 = s .third (lit< tt) in omega arith)
@@ -48,7 +49,7 @@ count-length ws n c t =
 
 agree-4 : (a b : ℕ) (double : Bool) (p q : ℕ) → eqb (a % 4) 3 ≡ false → Agree (entryWith 4 a b double .words) p q (cutWith 4 a b double)
     → entryWith 4 p q double ≡ entryWith 4 a b double
-unfolding entryWith cutWith cutOf
+unfolding entryWith cutWith cutWords
 agree-4 a b double p q f s =
     let t : Agree 3 p q (4 ∷ a % 1024 ∷ b % 1024 ∷ []) = rw f at s in
     let i : p ≡ a % 1024 = t .second (lit< tt) in
@@ -61,12 +62,12 @@ agree-jump w a b double p q e f = rw e (λ s. agree-4 a b double p q f s)
 
 agree-plain : (w a b : ℕ) (double : Bool) → w < 1024 → eqb w 4 ≡ false → (p q : ℕ) → Agree (entryWith w a b double .words) p q (cutWith w a b double)
     → entryWith w p q double ≡ entryWith w a b double
-unfolding entryWith cutWith cutOf entryFor
+unfolding entryWith cutWith cutWords entryFor
 agree-plain w a b double h e p q s =
     let n = rowOf (instructionOf w) double .words in
     let t : Agree n p q (firstWords (plain-cut n w a b) n) = rw e at s in
     rw e
-    (rw (plain-line w h e (operandOf n p q) p q, plain-line w h e (operandOf n a b) a b, same-operand w a b p q n (occurs 119 (templateOf (shape w .row))) (counts-at w h e double) t))
+    (rw (plain-line w h e (lineOperand n p q) p q, plain-line w h e (lineOperand n a b) a b, same-operand w a b p q n (occurs 119 (templateOf (shape w .row))) (counts-at w h e double) t))
 
 module _ (w a b : ℕ) (double : Bool) (h : w < 1024) where
   pub cut-length : (1 ≤ entryWith w a b double .words) × (length (cutWith w a b double) ≡ entryWith w a b double .words)
@@ -76,7 +77,7 @@ module _ (w a b : ℕ) (double : Bool) (h : w < 1024) where
       go : (i : Bool) → eqb w 4 ≡ i → (j : Bool) → eqb (a % 4) 3 ≡ j → (1 ≤ entryWith w a b double .words) × (length (cutWith w a b double) ≡ entryWith w a b double .words)
       go true e true f = rw (e, f) (lit≤ tt, refl)
       go true e false f = rw (e, f) (lit≤ tt, refl)
-      go false e j f = rw e (count-length (cutOf (rowOf (instructionOf w) double .words) w a b) (rowOf (instructionOf w) double .words) (occurs 119 (templateOf (shape w .row))) (counts-at w h e double))
+      go false e j f = rw e (count-length (cutWords (rowOf (instructionOf w) double .words) w a b) (rowOf (instructionOf w) double .words) (occurs 119 (templateOf (shape w .row))) (counts-at w h e double))
 
   pub agree-entry : (p q : ℕ) → (eqb w 4 ≡ true → eqb (a % 4) 3 ≡ true → ⊥) → Agree (entryWith w a b double .words) p q (cutWith w a b double)
       → entryWith w p q double ≡ entryWith w a b double

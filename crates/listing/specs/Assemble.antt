@@ -8,10 +8,11 @@ use lib.ListN.{getD}
 use Rattle.refusal.specs.declared.Refusal.the-variants.{NotAListingLine}
 use Rattle.refusal.specs.Refusals.{refusalNumber}
 use Rattle.word.specs.Word.{wrapAdd}
-use Rattle.memory.specs.Memory.{peekOf}
+use Rattle.memory.specs.Bus.{busOf, readOf}
 use Rattle.decode.specs.declared.Decoded.{Decoded}
 use Rattle.decode.specs.declared.Decoded.the-variants.{Unspecified, Known}
-use Rattle.decode.specs.Decode.{decodeAt, opcodeOf}
+use Rattle.decode.specs.Fields.{opcodeOf}
+use Rattle.decode.specs.Decode.{decodeAt}
 use Rattle.decode.specs.Rows.{rowOf}
 use Rattle.listing.specs.declared.line.Line.{Line}
 use Rattle.listing.specs.Rows.{templateOf, baseOf}
@@ -28,8 +29,8 @@ abbrev pub signValue : ℕ → ℕ
 signValue c = cond (eqb c 45) 4 0
 
 -- a line with what stands at the place of a template's symbol: a digit of s or d, the sign, the next digit of the operand
-unfoldable pub takenOf : Line → ℕ → ℕ → Line
-takenOf l h c =
+unfoldable pub withSymbol : Line → ℕ → ℕ → Line
+withSymbol l h c =
     cond (ltb h 97) l
     (cond (eqb h 115) (lineWith (l .row) (valueOf c) (l .d) (l .operand))
     (cond (eqb h 100) (lineWith (l .row) (l .s) (valueOf c) (l .operand))
@@ -39,11 +40,11 @@ takenOf l h c =
 abbrev pub readIn : List ℕ → List ℕ → Line → Line
 readIn [] text l = l
 readIn (h ∷ t) [] l = l
-readIn (h ∷ t) (c ∷ text) l = readIn t text (takenOf l h c)
+readIn (h ∷ t) (c ∷ text) l = readIn t text (withSymbol l h c)
 
 -- a text read as a line of row r
-unfoldable pub readOf : ℕ → List ℕ → Line
-readOf r text = readIn (templateOf r) text (lineWith r 0 0 0)
+unfoldable pub lineRead : ℕ → List ℕ → Line
+lineRead r text = readIn (templateOf r) text (lineWith r 0 0 0)
 
 -- how many words an opcode's instruction has
 abbrev pub countOf : Decoded → Bool → ℕ
@@ -51,7 +52,7 @@ countOf Unspecified double = 1
 countOf (Known i) double = rowOf i double .words
 
 unfoldable pub wordCount : ℕ → Bool → ℕ
-wordCount w double = countOf (decodeAt (peekOf (w ∷ [])) 0 false) double
+wordCount w double = countOf (decodeAt (readOf (busOf (w ∷ []))) 0 false) double
 
 -- a jump's second word without the address: rows 79 on have no return register, rows 82 on R4 to R6; row 85 is DECLE, which
 -- stands for any second word that ends in bits 3
@@ -68,8 +69,8 @@ plainWords w x double =
     cond (eqb (wordCount w double) 3) (w ∷ x % 256 ∷ x / 256 ∷ []) (w ∷ x ∷ 0 ∷ [])
 
 -- the words of a line, filled up to three
-unfoldable pub wordsOf : Line → Bool → List ℕ
-wordsOf l double =
+unfoldable pub encoded : Line → Bool → List ℕ
+encoded l double =
     cond (leb 79 (l .row)) (jumpWords l)
     (plainWords (baseOf (l .row) + l .s % 16 * 8 + l .d % 16) (l .operand) double)
 
@@ -80,19 +81,19 @@ firstWords ws n =
     (cond (eqb n 2) (getD ws 0 0 ∷ getD ws 1 0 ∷ []) (getD ws 0 0 ∷ getD ws 1 0 ∷ getD ws 2 0 ∷ []))
 
 -- "gives opcode and jump words below 1024, and under D the two words of a read row's immediate below 256": n words of opcode w
-unfoldable pub cutOf : ℕ → ℕ → ℕ → ℕ → List ℕ
-cutOf n w a b =
+unfoldable pub cutWords : ℕ → ℕ → ℕ → ℕ → List ℕ
+cutWords n w a b =
     cond (eqb w 0x004) (w ∷ a % 1024 ∷ b % 1024 ∷ []) (cond (eqb n 3) (w ∷ a % 256 ∷ b % 256 ∷ []) (w ∷ a ∷ b ∷ []))
 
 -- the words of the instruction at an address, so cut
 unfoldable pub cutAt : (ℕ → ℕ) → ℕ → Bool → List ℕ
 cutAt read at double =
-    firstWords (cutOf (entryAt read at double .words) (opcodeOf (read at)) (read (wrapAdd at 1)) (read (wrapAdd at 2)))
+    firstWords (cutWords (entryAt read at double .words) (opcodeOf (read at)) (read (wrapAdd at 1)) (read (wrapAdd at 2)))
     (entryAt read at double .words)
 
--- a memory of the words that a text has as a line of row r
+-- the words that a text has as a line of row r, seen as a memory
 abbrev pub memoryAs : ℕ → List ℕ → Bool → ℕ → ℕ
-memoryAs r text double = peekOf (wordsOf (readOf r text) double)
+memoryAs r text double = readOf (busOf (encoded (lineRead r text) double))
 
 -- the words of a text as a line of one of the first n rows, if it lists as itself; refusal 6: "line not one of the lister's"
 unfoldable pub triedIn : ℕ → List ℕ → Bool → AssemblyReport

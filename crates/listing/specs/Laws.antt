@@ -1,16 +1,18 @@
 -- What holds of listing and assembling together. Each law is stated here; `proofs/RoundTrip` proves (a), (c),
 -- (d) and (f), `proofs/Itself` (b), and `proofs/RowTable` (e).
-use Prim.Native.Nat.{ℕ, _<_, _≤_, _%_}
+use Prim.Native.Nat.{ℕ, _<_}
 use mathlib.Core.Path.{_≡_}
 use mathlib.Core.Bool.{Bool, true, false}
 use mathlib.Core.List.{List}
 use lib.ListN.{length, getD}
 use Rattle.word.specs.Word.{wrapAdd}
-use Rattle.memory.specs.Memory.{peekOf, Words}
+use Rattle.memory.specs.Bus.{Bus, busOf, readOf}
+use Rattle.memory.specs.Laws.{BusWords}
 use Rattle.decode.specs.declared.Instr.{Instr}
-use Rattle.decode.specs.declared.Instr.the-variants.{Operate}
+use Rattle.decode.specs.declared.Instr.the-variants.{Read}
 use Rattle.decode.specs.declared.Decoded.the-variants.{Unspecified, Known}
-use Rattle.decode.specs.Decode.{opcodeOf, instructionOf, decodeAt}
+use Rattle.decode.specs.Fields.{opcodeOf, jumpBits}
+use Rattle.decode.specs.Decode.{instructionOf, decodeAt}
 use Rattle.decode.specs.Rows.{rowOf}
 use Rattle.listing.specs.Rows.{codes}
 use Rattle.listing.specs.Answer.{assembled}
@@ -20,9 +22,9 @@ use Rattle.listing.specs.Assemble.{cutAt, assembleOf}
 -- (a) "Cut so, a listed instruction's words come back equal"
 abbrev pub ListedComesBack : Type 0
 ListedComesBack =
-    (m : List ℕ) (at : ℕ) (double : Bool) →
-    Words m →
-    assembleOf (textAt (peekOf m) at double) double ≡ assembled (cutAt (peekOf m) at double)
+    (b : Bus) (at : ℕ) (double : Bool) →
+    BusWords b →
+    assembleOf (textAt (readOf b) at double) double ≡ assembled (cutAt (readOf b) at double)
 
 -- the words ws stand at an address, whatever follows them
 abbrev pub Stand : (ℕ → ℕ) → ℕ → List ℕ → Type 0
@@ -44,21 +46,21 @@ pub record AcceptsListedLines : Type 0 where
   pub only :
       (text : List ℕ) (double : Bool) (ws : List ℕ) →
       assembleOf text double ≡ assembled ws →
-      (m : List ℕ) × (Words m × (textAt (peekOf m) 0 double ≡ text))
+      (m : List ℕ) × (BusWords (busOf m) × (textAt (readOf (busOf m)) 0 double ≡ text))
   pub every :
-      (text : List ℕ) (double : Bool) (m : List ℕ) (at : ℕ) →
-      Words m →
-      textAt (peekOf m) at double ≡ text →
+      (text : List ℕ) (double : Bool) (b : Bus) (at : ℕ) →
+      BusWords b →
+      textAt (readOf b) at double ≡ text →
       (ws : List ℕ) × (assembleOf text double ≡ assembled ws)
 
 -- (d) two instructions with the same line have the same words, cut
 abbrev pub SameLineSameWords : Type 0
 SameLineSameWords =
-    (m n : List ℕ) (at to : ℕ) (double : Bool) →
-    Words m →
-    Words n →
-    textAt (peekOf m) at double ≡ textAt (peekOf n) to double →
-    cutAt (peekOf m) at double ≡ cutAt (peekOf n) to double
+    (b c : Bus) (at to : ℕ) (double : Bool) →
+    BusWords b →
+    BusWords c →
+    textAt (readOf b) at double ≡ textAt (readOf c) to double →
+    cutAt (readOf b) at double ≡ cutAt (readOf c) to double
 
 -- (e) words used and next D are those of the row table that the step uses; of "jump bits 3 .. one word, next D clear", and "stack
 -- reads under D list as without it"
@@ -67,9 +69,9 @@ pub record FollowsRowTable (read : ℕ → ℕ) (at : ℕ) (double : Bool) : Typ
       (i : Instr) →
       decodeAt read at double ≡ Known i →
       (entryAt read at double .words ≡ rowOf i double .words) × (entryAt read at double .double ≡ rowOf i double .double)
-  pub jump :
+  pub jump-bits :
       opcodeOf (read at) ≡ 0x004 →
-      read (wrapAdd at 1) % 4 ≡ 3 →
+      jumpBits (read (wrapAdd at 1)) ≡ 3 →
       (entryAt read at double .words ≡ 1) × (entryAt read at double .double ≡ false)
   pub stack :
       (i : Instr) →
@@ -83,12 +85,11 @@ EveryRowFollows = (read : ℕ → ℕ) (at : ℕ) (double : Bool) → FollowsRow
 -- (f) "gives opcode and jump words below 1024, and under D the two words of a read row's immediate below 256"
 pub record Cut (double : Bool) (ws : List ℕ) : Type 0 where
   pub opcode : getD ws 0 0 < 1024
-  pub jump : getD ws 0 0 ≡ 0x004 → (i : ℕ) → getD ws i 0 < 1024
+  pub jump-words : getD ws 0 0 ≡ 0x004 → (i : ℕ) → getD ws i 0 < 1024
   pub immediate :
-      (k d : ℕ) →
+      (row d : ℕ) →
       double ≡ true →
-      instructionOf (getD ws 0 0) ≡ Operate k 7 d →
-      8 ≤ k →
+      instructionOf (getD ws 0 0) ≡ Read row 7 d →
       (length ws ≡ 3) × ((getD ws 1 0 < 256) × (getD ws 2 0 < 256))
 
 abbrev pub AssembledIsCut : Type 0

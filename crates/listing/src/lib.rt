@@ -1,10 +1,12 @@
 // The disassembler (document 01's lister) and the one-line assembler: what line stands for which words.
 ghost use mathlib.Core.Path.{_≡_};
 ghost use Prim.Native.Nat.{_%_};
+ghost use Rattle.memory.specs.Bus.{busOf};
 ghost use Rattle.listing.specs.Line.{digitOf};
 ghost use Rattle.listing.specs.Answer.{assembled, assemblyReported};
 ghost use Rattle.listing.specs.Disassemble.{disassembly, disassembleOf};
 ghost use Rattle.listing.specs.Assemble.{firstWords, assembleOf};
+use memory::Admission;
 use refusal::Refusal;
 
 mod encode;
@@ -17,7 +19,7 @@ pub enum Listing {
     Refused(Refusal),
     Listed {
         length: usize,
-        words: u8,
+        words: u16,
         double: bool,
     },
 }
@@ -35,11 +37,11 @@ const TEXT_ROOM: usize = 16;
 
 // The line of the instruction at an address, with D as it stands there. Only the line's bytes are written.
 pub fn disassemble(mem: &[u16], at: u16, double: bool, text: &mut [u8]) -> Listing
-    ensures { λ r. ⌜ disassembly r (now (text .exit)) ≡ disassembleOf (now (mem .entry)) at double (now (text .entry)) ⌝ }
+    ensures { λ r. ⌜ disassembly r (now (text .exit)) ≡ disassembleOf (busOf (now (mem .entry))) at double (now (text .entry)) ⌝ }
 {
-    let long = memory::is_too_long(mem);
-    if long {
-        return Listing::Refused(Refusal::MemoryTooLong);
+    let admission = memory::admit(mem);
+    if let Admission::Barred(refusal) = admission {
+        return Listing::Refused(refusal);
     }
     if text.len() < TEXT_ROOM {
         return Listing::Refused(Refusal::TextRoomTooSmall);
@@ -63,7 +65,7 @@ pub fn hex_digit(value: u16) -> u8
 }
 
 // The first one, two or three words.
-fn first_words(words: [u16; 3], count: u8) -> Assembly
+fn first_words(words: [u16; 3], count: u16) -> Assembly
     ensures { λ r. ⌜ assemblyReported r ≡ assembled (firstWords words count) ⌝ }
 {
     match count {

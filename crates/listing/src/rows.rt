@@ -1,5 +1,5 @@
-// The table of listing lines: one row for each name and form of its operands. Both directions read it, and no name and no opcode
-// stands anywhere else.
+// The table of listing lines: one row for each name and form of its operands, with its opcode where s and d are 0. Both directions read it,
+// and no name stands anywhere else.
 ghost use mathlib.Core.Path.{_≡_};
 ghost use Prim.Native.Nat.{_+_, _<_, _≤_};
 ghost use Rattle.listing.specs.Rows.{baseOf};

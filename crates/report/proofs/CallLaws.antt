@@ -1,61 +1,32 @@
 -- What the disassembler and the meter answer here: neither refuses, as the memory is short enough, the room large enough, and the region in
 -- its order.
-use Prim.Native.Nat.{ℕ, _-_, _≤_, _<_}
+use Prim.Native.Nat.{ℕ, _-_, _≤_}
 use mathlib.Core.Path.{_≡_, sym, ap, _∙_}
 use mathlib.Core.Bool.{Bool}
 use mathlib.Core.List.{List, _++_}
 use native.Mathlib.Omega.{arith}
 use borrow.Author.Tests.{le-ltb}
-use lib.Dec.{lit<}
 use lib.ListN.{length, take, drop}
 use lib.Seq.{take-append-seam}
 use Rattle.word.proofs.Choice.{cond-false}
 use Rattle.refusal.specs.declared.Refusal.{Refusal}
-use Rattle.refusal.specs.declared.Refusal.the-variants.{
-  MemoryTooLong,
-  Halted,
-  Unspecified,
-  BudgetTooHigh,
-  TextRoomTooSmall,
-  NotAListingLine,
-  FirstAboveLast,
-  LimitTooHigh,
-  MalformedImage,
-  WrongBoard,
-  PastMemory,
-  SumDiffers,
-  ImageRoomTooSmall,
-}
 use Rattle.refusal.specs.Refusals.{refusalNumber}
-use Rattle.memory.specs.Memory.{peekOf}
+use Rattle.refusal.specs.Report.{answered}
+use Rattle.refusal.proofs.ReportLaws.{no-answer, same-answer}
+use Rattle.memory.specs.Bus.{busOf, readOf}
+use Rattle.memory.proofs.BusLaws.{lets-in, unless-in}
 use Rattle.listing.specs.declared.Listing.{Listing}
 use Rattle.listing.specs.declared.Listing.the-variants.{Refused as Unlisted, Listed}
-use Rattle.listing.specs.Answer.{refused, listed}
+use Rattle.listing.specs.Answer.{refused as unlisted, listed}
 use Rattle.listing.specs.Disassemble.{Disassembly, entryAt, textAt, written, disassembleOf, disassembly}
 use Rattle.meter.specs.declared.LongestWait.{LongestWait}
 use Rattle.meter.specs.declared.LowestOver.{LowestOver}
 use Rattle.meter.specs.declared.RegionAnswer.{RegionAnswer}
 use Rattle.meter.specs.declared.RegionAnswer.the-variants.{Refused as Unmetered, Found}
-use Rattle.meter.specs.Answer.{refused as rejected, answered, longestOf, lowestOf, regionReport}
+use Rattle.meter.specs.Answer.{longestOf, lowestOf, regionReport}
 use Rattle.meter.specs.Meter.{answerFrom, namedOf, regionOf}
 use Rattle.report.specs.Regions.{meteringLimit, namedBy}
 use Rattle.report.proofs.LineLaws.{text-short}
-
--- a refusal's number has two digits at most
-pub number-short : (r : Refusal) → refusalNumber r < 100
-number-short MemoryTooLong = lit< tt
-number-short Halted = lit< tt
-number-short Unspecified = lit< tt
-number-short BudgetTooHigh = lit< tt
-number-short TextRoomTooSmall = lit< tt
-number-short NotAListingLine = lit< tt
-number-short FirstAboveLast = lit< tt
-number-short LimitTooHigh = lit< tt
-number-short MalformedImage = lit< tt
-number-short WrongBoard = lit< tt
-number-short PastMemory = lit< tt
-number-short SumDiffers = lit< tt
-number-short ImageRoomTooSmall = lit< tt
 
 -- a line that was listed; the code takes it from the front of the room
 pub record ListedLine (read : ℕ → ℕ) (at : ℕ) (double : Bool) (room : List ℕ) (size words : ℕ) (next : Bool) : Type 0 where
@@ -65,52 +36,45 @@ pub record ListedLine (read : ℕ → ℕ) (at : ℕ) (double : Bool) (room : Li
   pub short : size ≤ 14
   pub text-short : length (take (size - 0) (drop 0 room)) ≤ 14
 
-module _ (m : List ℕ) (at : ℕ) (double : Bool) (room : List ℕ) {after : List ℕ} (x : Listing) (e : disassembly x after ≡ disassembleOf m at double room)
+module _ (m : List ℕ) (at : ℕ) (double : Bool) (room : List ℕ) {after : List ℕ} (x : Listing) (e : disassembly x after ≡ disassembleOf (busOf m) at double room)
     (h : length m ≤ 65536) (k : 16 ≤ length room) where
-  listing-is : disassembly x after ≡ written (entryAt (peekOf m) at double) room
+  listing-is : disassembly x after ≡ written (entryAt (readOf (busOf m)) at double) room
   unfolding disassembleOf
-  listing-is = e ∙ cond-false _ _ (le-ltb 65536 (length m) h) ∙ cond-false _ _ (le-ltb (length room) 16 k)
+  listing-is = e ∙ unless-in _ _ (lets-in m h) ∙ cond-false _ _ (le-ltb (length room) 16 k)
 
-  pub listed-line : {size words : ℕ} {next : Bool} → x ≡ Listed size words next → ListedLine (peekOf m) at double after size words next
+  pub listed-line : {size words : ℕ} {next : Bool} → x ≡ Listed size words next → ListedLine (readOf (busOf m)) at double after size words next
   unfolding written
   listed-line {size} {words} {next} f =
-      let text = textAt (peekOf m) at double in
-      let answer : listed size words next ≡ listed (length text) (entryAt (peekOf m) at double .words) (entryAt (peekOf m) at double .double) =
+      let text = textAt (readOf (busOf m)) at double in
+      let answer : listed size words next ≡ listed (length text) (entryAt (readOf (busOf m)) at double .words) (entryAt (readOf (busOf m)) at double .double) =
       ap (λ (y : Listing). disassembly y after .answer) (sym f) ∙ ap (λ (d : Disassembly). d .answer) listing-is
       in
       let line : after ≡ text ++ drop (length text) room = ap (λ (d : Disassembly). d .room) listing-is in
       let s : size ≡ length text = cc in
       let z : length text - 0 ≡ length text = omega arith in
       let t : take (size - 0) (drop 0 after) ≡ text = rw (s, line, z) (take-append-seam text (drop (length text) room)) in
-      let k : length text ≤ 14 = text-short (peekOf m) at double in
+      let k : length text ≤ 14 = text-short (readOf (busOf m)) at double in
       record { words-are = cc; next-is = cc; text-is = t; short = rw s k; text-short = rw t k }
 
   pub listed-surely : {A : Type 0} {r : Refusal} → x ≡ Unlisted r → A
   unfolding written
   listed-surely {A} {r} f =
-      let text = textAt (peekOf m) at double in
-      let answer : refused (refusalNumber r) ≡ listed (length text) (entryAt (peekOf m) at double .words) (entryAt (peekOf m) at double .double) =
+      let text = textAt (readOf (busOf m)) at double in
+      let answer : unlisted (refusalNumber r) ≡ listed (length text) (entryAt (readOf (busOf m)) at double .words) (entryAt (readOf (busOf m)) at double .double) =
       ap (λ (y : Listing). disassembly y after .answer) (sym f) ∙ ap (λ (d : Disassembly). d .answer) listing-is
       in
       let z : _≡_ {A = ℕ} 0 1 = cc in
       absurd (omega arith)
 
-module _ (m : List ℕ) (first last : ℕ) (x : RegionAnswer) (e : regionReport x ≡ regionOf m first last meteringLimit)
+module _ (m : List ℕ) (first last : ℕ) (x : RegionAnswer) (e : regionReport x ≡ regionOf (busOf m) first last meteringLimit)
     (h : length m ≤ 65536) (k : first ≤ last) where
-  region-is : regionReport x ≡ answered (namedOf (answerFrom m meteringLimit) first last)
+  region-is : regionReport x ≡ answered (namedOf (answerFrom (busOf m) meteringLimit) first last)
   unfolding regionOf
-  region-is = e ∙ cond-false _ _ (le-ltb 65536 (length m) h) ∙ cond-false _ _ (le-ltb last first k)
+  region-is = e ∙ unless-in _ _ (lets-in m h) ∙ cond-false _ _ (le-ltb last first k)
 
   pub metered-named : {l : LongestWait} {o : LowestOver} → x ≡ Found l o
-      → namedBy (longestOf l) (lowestOf o) ≡ namedOf (answerFrom m meteringLimit) first last
-  metered-named {l} {o} f =
-      let answer : answered (namedBy (longestOf l) (lowestOf o)) ≡ answered (namedOf (answerFrom m meteringLimit) first last) =
-      ap regionReport (sym f) ∙ region-is
-      in
-      cc
+      → namedBy (longestOf l) (lowestOf o) ≡ namedOf (answerFrom (busOf m) meteringLimit) first last
+  metered-named f = same-answer (ap regionReport (sym f) ∙ region-is)
 
   pub metered-surely : {A : Type 0} {r : Refusal} → x ≡ Unmetered r → A
-  metered-surely {A} {r} f =
-      let answer : rejected (refusalNumber r) ≡ answered (namedOf (answerFrom m meteringLimit) first last) = ap regionReport (sym f) ∙ region-is in
-      let z : _≡_ {A = ℕ} 0 1 = cc in
-      absurd (omega arith)
+  metered-surely f = no-answer (ap regionReport (sym f) ∙ region-is)

@@ -1,23 +1,20 @@
 -- How long the lines are, how many there are, and that each instruction has a word or more.
 use Prim.Native.Nat.{ℕ, zero, suc, _+_, _-_, _*_, _≤_, _<_}
 use mathlib.Core.Path.{_≡_, refl, sym, ap}
-use mathlib.Core.Bool.{Bool, false, cond, _&&_, _||_}
+use mathlib.Core.Bool.{Bool, false, cond}
 use mathlib.Core.List.{List, [], _∷_, _++_, append-assoc}
 use native.Mathlib.Omega.{arith}
 use borrow.Author.Tests.{lt-ltb, le-ltb}
-use lib.Dec.{eqb, ltb, lit≤}
+use lib.Dec.{ltb, lit≤}
 use lib.ListN.{length, length-append}
 use Rattle.word.specs.Word.{wrapAdd}
 use Rattle.word.proofs.Choice.{cond-both, cond-true, cond-false}
-use Rattle.memory.specs.Memory.{peekOf}
+use Rattle.memory.specs.Bus.{busOf, readOf}
 use Rattle.image.specs.Format.{Record}
-use Rattle.decode.specs.declared.Instr.{Instr}
-use Rattle.decode.specs.declared.Instr.the-variants.{Control, Single, Shift, Branch, Store, Operate}
 use Rattle.decode.specs.declared.Decoded.{Decoded}
 use Rattle.decode.specs.declared.Decoded.the-variants.{Unspecified, Known}
-use Rattle.decode.specs.declared.rows.Row.{Row}
 use Rattle.decode.specs.Decode.{decodeAt}
-use Rattle.decode.specs.Rows.{heardRow, unheardRow, controlRow, shiftRow, branchRow, isNopp, memoryWords, storeRow, readWords, operateRow, rowOf}
+use Rattle.decode.proofs.RowLaws.{row-bounds}
 use Rattle.listing.specs.Disassemble.{entryFor, entryOf, entryAt, textAt}
 use Rattle.listing.proofs.Entries.{entry-in}
 use Rattle.listing.proofs.Lines.{text-length}
@@ -32,32 +29,14 @@ use Rattle.report.specs.Regions.{meteringLimit, waitText, overText, name
 use Rattle.report.specs.Report.{recordLines, recordsLines, endNumber}
 use Rattle.report.specs.Laws.{EveryInstructionListed}
 
--- every row has a word
-abbrev SomeWords : Row → Type 0
-SomeWords row = 1 ≤ row .words
-
-memory-some : (s : ℕ) → 1 ≤ memoryWords s
-unfolding memoryWords
-memory-some s = cond-both (λ n. 1 ≤ n) (eqb s 0 || eqb s 7) (lit≤ tt) (lit≤ tt)
-
-row-some : (i : Instr) (double : Bool) → SomeWords (rowOf i double)
-unfolding heardRow unheardRow controlRow shiftRow branchRow storeRow operateRow readWords
-row-some (Control d) double =
-    cond-both SomeWords (eqb d 0) (lit≤ tt) (cond-both SomeWords (eqb d 1) (lit≤ tt) (cond-both SomeWords (eqb d 4) (lit≤ tt) (lit≤ tt)))
-row-some (Single s d) double = lit≤ tt
-row-some (Shift s d) double = cond-both SomeWords (ltb d 4) (lit≤ tt) (lit≤ tt)
-row-some (Branch b) double = cond-both SomeWords (isNopp b) (lit≤ tt) (lit≤ tt)
-row-some (Store s d) double = cond-both SomeWords (eqb s 0) (memory-some s) (memory-some s)
-row-some (Operate k s d) double =
-    cond-both SomeWords (ltb k 8) (lit≤ tt) (cond-both (λ n. 1 ≤ n) (double && eqb s 7) (lit≤ tt) (memory-some s))
-
+-- every instruction has a word
 pub words-some : (read : ℕ → ℕ) (at : ℕ) (double : Bool) → 1 ≤ entryAt read at double .words
 unfolding entryAt entryFor
 words-some read at double = go (decodeAt read at false)
   where
     go : (x : Decoded) → 1 ≤ entryOf x double (read (wrapAdd at 1)) (read (wrapAdd at 2)) .words
     go Unspecified = lit≤ tt
-    go (Known i) = row-some i double
+    go (Known i) = row-bounds .words-least i double
 
 hex-length : (w : ℕ) → length (hexOf w) ≡ 4
 unfolding hexOf
@@ -138,14 +117,14 @@ named-short first last named =
 -- a record of c words has 6 + c * 2 bytes in the file
 pub record-size : (report : Report) (m : List ℕ) (a c : ℕ) → 0 < c → length (linesText (recordLines report m a c)) ≤ (6 + c * 2) * 10
 unfolding instructionLines regionLine
-record-size Listing m a c h = omega (arith, lines-size c (peekOf m) (a + c) a false)
+record-size Listing m a c h = omega (arith, lines-size c (readOf (busOf m)) (a + c) a false)
 record-size Metering m a c h =
     let line = regionLine m a (a + (c - 1)) in
-    omega (arith, length-append (lineText line) [], named-short a (a + (c - 1)) (namedOf (answerFrom m meteringLimit) a (a + (c - 1))))
+    omega (arith, length-append (lineText line) [], named-short a (a + (c - 1)) (namedOf (answerFrom (busOf m) meteringLimit) a (a + (c - 1))))
 
 pub record-few : (report : Report) (m : List ℕ) (a c : ℕ) → 0 < c → length (recordLines report m a c) ≤ c
 unfolding instructionLines
-record-few Listing m a c h = lines-few c (peekOf m) (a + c) a false
+record-few Listing m a c h = lines-few c (readOf (busOf m)) (a + c) a false
 record-few Metering m a c h = h
 
 -- the metering has one line for each record

@@ -6,7 +6,7 @@ use mathlib.Core.List.{List, [], _∷_, _++_, append-assoc, append-nil}
 use native.Mathlib.Omega.{arith}
 use lib.ListN.{length, take, drop, length-drop}
 use lib.Seq.{drop-drop}
-use Rattle.memory.specs.Memory.{peekOf}
+use Rattle.memory.specs.Bus.{busOf, readOf}
 use Rattle.image.specs.declared.FirstRecord.{FirstRecord}
 use Rattle.image.specs.declared.FirstRecord.the-variants.{Record as FoundRecord, NoRecord}
 use Rattle.image.specs.Format.{Record}
@@ -32,7 +32,7 @@ pub record Listed (m : List ℕ) (address count : ℕ) (room₀ : List ℕ) (pag
   pub space : at + (address + count - next) * 20 ≤ length room₀
   pub few : lines + (address + count - next) ≤ page .lines + count
   pub adds : Adds room₀ page done room (record { at = at; lines = lines })
-  pub same : done ++ linesFrom left (peekOf m) (address + count) next double ≡ instructionLines m address count
+  pub same : done ++ linesFrom left (readOf (busOf m)) (address + count) next double ≡ instructionLines m address count
 
 pub listed-none : (m : List ℕ) (address count : ℕ) (room : List ℕ) (page : Page) → page .at + count * 20 ≤ length room
     → Listed m address count room page room address false (page .at) (page .lines)
@@ -54,10 +54,10 @@ module _ {m : List ℕ} {address count : ℕ} {room₀ : List ℕ} {page : Page}
   pub listed-length : length room ≡ length room₀
   listed-length = puts-length (k .adds .puts)
 
-  pub listed-on : {after : List ℕ} {line : Next} → next < address + count → Steps (peekOf m) next double room at after line
+  pub listed-on : {after : List ℕ} {line : Next} → next < address + count → Steps (readOf (busOf m)) next double room at after line
       → Listed m address count room₀ page after (next + line .words) (line .double) (line .at) (lines + 1)
   listed-on {after} {line} h s =
-      let read = peekOf m in
+      let read = readOf (busOf m) in
       let w = words-some read next double in
       let z = line-short read next double in
       let p = s .puts .place in
@@ -77,7 +77,7 @@ module _ {m : List ℕ} {address count : ℕ} {room₀ : List ℕ} {page : Page}
   pub listed-end : address + count ≤ next → Adds room₀ page (instructionLines m address count) room (record { at = at; lines = lines })
   listed-end h =
       let e : k .done ≡ instructionLines m address count =
-      sym (append-nil (k .done)) ∙ rw (lines-end (k .left) (peekOf m) (address + count) next double h) at (k .same)
+      sym (append-nil (k .done)) ∙ rw (lines-end (k .left) (readOf (busOf m)) (address + count) next double h) at (k .same)
       in
       rw e at (k .adds)
 

@@ -6,9 +6,9 @@ use lib.Dec.{ltb}
 use lib.ListN.{length, drop, replicate}
 use Rattle.refusal.specs.declared.Refusal.the-variants.{MalformedImage}
 use Rattle.refusal.specs.Refusals.{refusalNumber}
+use Rattle.refusal.specs.Report.{Report, refused, answered}
 use Rattle.image.specs.Format.{Record}
 use Rattle.image.specs.Read.{Body, whole, broken, bodyOf}
-use Rattle.image.specs.Answer.{Reported, refused, answered}
 use Rattle.image.specs.Load.{Loading, loadOf}
 
 abbrev pub boardNumber : ℕ
@@ -36,7 +36,7 @@ pub data Reading : Type 0 where
   unread : ℕ → Reading
   read : List ℕ → List Record → Reading
 
-abbrev pub loadRead : List Record → List ℕ → Reported → Reading
+abbrev pub loadRead : List Record → List ℕ → Report ℕ → Reading
 loadRead rs m (refused n) = unread n
 loadRead rs m (answered n) = read m rs
 

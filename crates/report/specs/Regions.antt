@@ -2,6 +2,7 @@
 -- Over start".
 use Prim.Native.Nat.{ℕ, _+_, _-_}
 use mathlib.Core.List.{List, [], _∷_, _++_}
+use Rattle.memory.specs.Bus.{busOf}
 use Rattle.listing.specs.Rows.{codes}
 use Rattle.meter.specs.Answer.{Longest, noWait, longest, Lowest, noOver, overAt, Named}
 use Rattle.meter.specs.Meter.{answerFrom, namedOf}
@@ -31,7 +32,7 @@ namedLine first last named =
 
 -- the line of the region from first to last
 unfoldable pub regionLine : List ℕ → ℕ → ℕ → List ℕ
-regionLine m first last = namedLine first last (namedOf (answerFrom m meteringLimit) first last)
+regionLine m first last = namedLine first last (namedOf (answerFrom (busOf m) meteringLimit) first last)
 
 -- a record of so many words, of which there is one or more
 abbrev pub regionLines : List ℕ → ℕ → ℕ → List (List ℕ)

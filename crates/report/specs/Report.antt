@@ -52,13 +52,6 @@ readingText report (read m rs) = loadedText report m rs
 unfoldable pub reportText : Report → List ℕ → List ℕ
 reportText report input = readingText report (readingOf input)
 
--- the two programs
-abbrev pub listingText : List ℕ → List ℕ
-listingText input = reportText Listing input
-
-abbrev pub meteringText : List ℕ → List ℕ
-meteringText input = reportText Metering input
-
 -- all that a printing leaves: the text's length, and the room with the text at its front. The room past the text stays.
 pub record Printing : Type 0 where
   pub size : ℕ

@@ -1,7 +1,7 @@
 // The listing's lines: one for each instruction that starts in a record.
 ghost use Prim.Native.Nat.{_+_, _*_, _≤_};
 ghost use lib.ListN.{length};
-ghost use Rattle.memory.specs.Memory.{peekOf};
+ghost use Rattle.memory.specs.Bus.{busOf, readOf};
 ghost use Rattle.report.specs.Instructions.{instructionLines};
 ghost use Rattle.report.specs.Page.{Adds, Steps};
 use crate::page;
@@ -11,7 +11,7 @@ use listing::Listing;
 // Behind an instruction's line: the place in the room, the instruction's words, and D for the next one.
 pub(crate) struct Next {
     pub at: usize,
-    pub words: u8,
+    pub words: u16,
     pub double: bool,
 }
 
@@ -21,7 +21,7 @@ const TEXT_ROOM: usize = 16;
 // Address, space, text.
 fn put_line(memory: &[u16], address: u16, double: bool, room: &mut [u8], at: usize) -> Next
     requires { ⌜ (length (now memory) ≤ 65536) × (at + 20 ≤ length (now room)) ⌝ }
-    ensures { λ r. ⌜ Steps (peekOf (now (memory .entry))) address double (now (room .entry)) at (now (room .exit)) r ⌝ }
+    ensures { λ r. ⌜ Steps (readOf (busOf (now (memory .entry)))) address double (now (room .entry)) at (now (room .exit)) r ⌝ }
 {
     let mut text = [0u8; TEXT_ROOM];
     let listed = listing::disassemble(memory, address, double, &mut text);

@@ -20,7 +20,7 @@ fn put_wait(room: &mut [u8], at: usize, longest: LongestWait) -> usize
 {
     match longest {
         LongestWait::NoWait => page::put_bytes(room, at, b"WAIT NONE"),
-        LongestWait::Cycles(cycles, start) => {
+        LongestWait::Cycles { cycles, start } => {
             let wait = page::put_bytes(room, at, b"WAIT ");
             let behind = page::put_hex(room, wait, cycles);
             let place = page::put_bytes(room, behind, b" AT ");
@@ -35,7 +35,7 @@ fn put_over(room: &mut [u8], at: usize, lowest: LowestOver) -> usize
 {
     match lowest {
         LowestOver::NoOver => page::put_bytes(room, at, b"OVER NONE"),
-        LowestOver::At(start) => {
+        LowestOver::At { start } => {
             let over = page::put_bytes(room, at, b"OVER ");
             page::put_hex(room, over, start)
         }
@@ -76,7 +76,7 @@ pub(crate) fn put_line(
     let last = address + (count - 1);
     let answer = meter::region(memory, address, last, LIMIT);
     match answer {
-        RegionAnswer::Found(longest, lowest) => Page {
+        RegionAnswer::Found { longest, lowest } => Page {
             at: put_named(room, page.at, address, last, longest, lowest),
             lines: page.lines + 1,
         },

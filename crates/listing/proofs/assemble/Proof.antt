@@ -1,7 +1,7 @@
 -- `assemble` reads the text as a line of the row that it is guessed to be of: by `Accept` no other row accepts it.
 use mathlib.Core.Path.{sym, _∙_}
 use borrow.Author.Needs.{needs}
-use Rattle.memory.specs.Memory.{peekOf}
+use Rattle.memory.specs.Bus.{busOf, readOf}
 use Rattle.listing.proofs.Entries.{entry-in}
 use Rattle.listing.proofs.Back.{read-row}
 use Rattle.listing.proofs.Accept.{accepted, refused}
@@ -14,12 +14,12 @@ words-of-requires c κs =
 
 template-requires-2 : tie.Need-template-requires-2
 template-requires-2 c κs =
-    rw (c .before .entry-at .ensures) (entry-in (peekOf (c .before .before .before .words-of .result)) 0 (c .before .before .before .before .before .before .before .before .before .args .double))
+    rw (c .before .entry-at .ensures) (entry-in (readOf (busOf (c .before .before .before .words-of .result))) 0 (c .before .before .before .before .before .before .before .before .before .args .double))
 
 spells-requires : tie.Need-spells-requires
 spells-requires c κs = (
   c .before .template3 .ensures,
-  rw (c .before .before .before .entry-at .ensures) (entry-in (peekOf (c .before .before .before .before .before .words-of .result)) 0 (c .before .before .before .before .before .before .before .before .before .before .before .args .double)),
+  rw (c .before .before .before .entry-at .ensures) (entry-in (readOf (busOf (c .before .before .before .before .before .words-of .result))) 0 (c .before .before .before .before .before .before .before .before .before .before .before .args .double)),
 )
 
 returns : tie.Need-returns

@@ -1,7 +1,7 @@
 -- `disassemble` tests document 01's refusals in their order, and writes the entry's line.
 use borrow.Author.Needs.{needs}
 use borrow.Author.Tests.{lt-ltb, le-ltb}
-use Rattle.memory.specs.Memory.{peekOf}
+use Rattle.memory.specs.Bus.{busOf, readOf}
 use Rattle.listing.specs.Disassemble.{disassembleOf, written}
 use Rattle.listing.proofs.Entries.{entry-in}
 use Rattle.listing.proofs.disassemble.Statement.{statement}
@@ -9,21 +9,21 @@ use Rattle.listing.proofs.disassemble.Tie as tie
 
 returns : tie.Need-returns
 unfolding disassembleOf
-returns c = rw (← c .before .is-too-long .ensures, c .if1 .taken)
+returns c = rw (← c .before .before .before .admit .ensures, c .before .admission .given .1)
 
 returns-2 : tie.Need-returns-2
 unfolding disassembleOf
-returns-2 c = rw (← c .before .before .is-too-long .ensures, c .before .if1 .left, lt-ltb _ _ (c .if2 .taken))
+returns-2 c = rw (← c .before .before .before .admit .ensures, c .before .enum-told .given .1, lt-ltb _ _ (c .if1 .taken))
 
 template-requires : tie.Need-template-requires
 template-requires c κs =
-    let a = c .before .before .before .before .before .before .before .args in
-    rw (c .before .entry-at .ensures) (entry-in (peekOf (a .mem .now)) (a .at) (a .double))
+    let a = c .before .before .before .before .before .before .before .before .args in
+    rw (c .before .entry-at .ensures) (entry-in (readOf (busOf (a .mem .now))) (a .at) (a .double))
 
 write-requires : tie.Need-write-requires
 write-requires c κs =
-    let a = c .before .before .before .before .before .before .before .before .before .before .args in
-    (c .before .before .template .ensures, rw (c .before .before .before .before .entry-at .ensures) (entry-in (peekOf (a .mem .now)) (a .at) (a .double)), search needs)
+    let a = c .before .before .before .before .before .before .before .before .before .before .before .args in
+    (c .before .before .template .ensures, rw (c .before .before .before .before .entry-at .ensures) (entry-in (readOf (busOf (a .mem .now))) (a .at) (a .double)), search needs)
 
 returns-3 : tie.Need-returns-3
 unfolding disassembleOf written
@@ -31,9 +31,9 @@ returns-3 c = rw (
   c .before .before .write .ensures .0,
   c .before .before .write .ensures .1,
   c .before .before .before .before .before .before .before .entry-at .ensures,
-  ← c .before .before .before .before .before .before .before .before .before .before .is-too-long .ensures,
-  c .before .before .before .before .before .before .before .before .before .if1 .left,
-  le-ltb _ _ (c .before .before .before .before .before .before .before .before .if2 .left),
+  ← c .before .before .before .before .before .before .before .before .before .before .before .admit .ensures,
+  c .before .before .before .before .before .before .before .before .before .enum-told .given .1,
+  le-ltb _ _ (c .before .before .before .before .before .before .before .before .if1 .left),
 )
 
 pub disassemble-spec : {M : Type 1} → statement M
@@ -41,7 +41,9 @@ disassemble-spec =
     tie.close
     (tie.spec
     (λ c κs. search needs)
+    (λ c. search needs)
     returns
+    (λ c. search needs)
     returns-2
     (λ c κs. search needs)
     template-requires

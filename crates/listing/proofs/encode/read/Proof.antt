@@ -6,7 +6,7 @@ use mathlib.Core.Logic.{⊎-elim}
 use native.Mathlib.Omega.{arith}
 use lib.ListN.{getD, drop}
 use Rattle.listing.specs.Rows.{templateOf}
-use Rattle.listing.specs.Assemble.{takenOf, readIn, readOf}
+use Rattle.listing.specs.Assemble.{withSymbol, readIn, lineRead}
 use Rattle.listing.proofs.Table.{template-most, padded-at}
 use Rattle.listing.proofs.Reading.{literal, read-step, read-out, read-end}
 use Rattle.listing.proofs.encode.read.Statement.{statement}
@@ -14,13 +14,13 @@ use Rattle.listing.proofs.encode.read.Tie as tie
 
 abbrev Inv-loop : tie.InvT-loop
 Inv-loop text row template line₀ i₀ line i =
-    (i ≤ 14) × (readIn (drop i (templateOf row)) (drop i text) line ≡ readOf row text)
+    (i ≤ 14) × (readIn (drop i (templateOf row)) (drop i text) line ≡ lineRead row text)
 
 abbrev μ-loop : tie.MeasureT-loop
 μ-loop text row template line₀ i₀ line i = 14 - i
 
 loop-holds : tie.Need-loop-holds Inv-loop μ-loop
-unfolding readOf
+unfolding lineRead
 loop-holds c = (search needs, rw (c .line-with .ensures))
 
 returns : tie.Need-returns Inv-loop μ-loop
@@ -36,7 +36,7 @@ loop-again c =
     let v = c .before .before .before .before .loop in
     let symbol : getD (a .template .now) (v .i) 0 ≡ getD (templateOf (a .row)) (v .i) 46 =
     rw (p .0) (padded-at (a .row) (v .i) (c .before .before .before .loop-test .taken)) in
-    let line : c .if2 .line ≡ takenOf (v .line) (getD (a .template .now) (v .i) 0) (getD (a .text .now) (v .i) 0) =
+    let line : c .if2 .line ≡ withSymbol (v .line) (getD (a .template .now) (v .i) 0) (getD (a .text .now) (v .i) 0) =
     ⊎-elim (λ w. w .3 ∙ w .2 .ensures) (λ w. w .1 ∙ sym (literal (v .line) _ _ (w .0 .left))) (c .if2 .came) in (
       search needs,
       rw (line, symbol)

@@ -1,23 +1,23 @@
 use borrow.Author.Tests.{ne-eqb, le-ltb}
-use Rattle.listing.specs.Assemble.{takenOf}
+use Rattle.listing.specs.Assemble.{withSymbol}
 use borrow.Author.Needs.{needs}
 use Rattle.listing.proofs.encode.taken.Statement.{statement}
 use Rattle.listing.proofs.encode.taken.Tie as tie
 
 returns : tie.Need-returns
-unfolding takenOf
+unfolding withSymbol
 returns c = rw (c .line-with .ensures, c .before .value .ensures .0, le-ltb _ _ (c .before .before .before .pre), c .before .before .match .keys1)
 
 returns-2 : tie.Need-returns-2
-unfolding takenOf
+unfolding withSymbol
 returns-2 c = rw (c .line-with2 .ensures, c .before .value2 .ensures .0, le-ltb _ _ (c .before .before .before .pre), c .before .before .match .keys2)
 
 returns-3 : tie.Need-returns-3
-unfolding takenOf
+unfolding withSymbol
 returns-3 c = rw (c .line-with3 .ensures, c .before .sign-value .ensures, le-ltb _ _ (c .before .before .before .pre), c .before .before .match .keys3)
 
 returns-4 : tie.Need-returns-4
-unfolding takenOf
+unfolding withSymbol
 returns-4 c = simp (c .line-with4 .ensures, c .before .value3 .ensures .0, le-ltb _ _ (c .before .before .before .before .pre), ne-eqb _ _ (c .before .before .before .match .rest .1), ne-eqb _ _ (c .before .before .before .match .rest .0 .1), ne-eqb _ _ (c .before .before .before .match .rest .0 .0 .1))
 
 pub taken-spec : {M : Type 1} → statement M

@@ -1,15 +1,15 @@
 use borrow.Author.Tests.{le-leb, lt-leb}
-use Rattle.listing.specs.Assemble.{wordsOf, jumpWords}
+use Rattle.listing.specs.Assemble.{encoded, jumpWords}
 use borrow.Author.Needs.{needs}
 use Rattle.listing.proofs.encode.words_of.Statement.{statement}
 use Rattle.listing.proofs.encode.words_of.Tie as tie
 
 returns : tie.Need-returns
-unfolding wordsOf jumpWords
+unfolding encoded jumpWords
 returns c = rw (c .jump-word .ensures .0, c .before .before .base-of .ensures .0, le-leb _ _ (c .before .if1 .taken))
 
 returns-2 : tie.Need-returns-2
-unfolding wordsOf
+unfolding encoded
 returns-2 c = rw (c .plain-words .ensures, c .before .before .before .before .base-of .ensures .0, lt-leb _ _ (c .before .before .before .if1 .left))
 
 pub words-of-spec : {M : Type 1} → statement M

@@ -5,25 +5,19 @@ use Rattle.listing.proofs.entry.control_line.Tie as tie
 
 returns : tie.Need-returns
 unfolding controlLine
-returns c = rw (c .jump-line .ensures, c .before .if1 .taken)
+returns c = rw (c .line-with .ensures, c .before .if1 .taken)
 
 returns-2 : tie.Need-returns-2
 unfolding controlLine
-returns-2 c = rw (c .line-with .ensures, c .before .before .if1 .left, c .before .if2 .taken)
-
-returns-3 : tie.Need-returns-3
-unfolding controlLine
-returns-3 c = rw (c .line-with2 .ensures, c .before .before .if1 .left, c .before .if2 .left)
+returns-2 c = rw (c .line-with2 .ensures, c .before .if1 .left)
 
 pub control-line-spec : {M : Type 1} → statement M
 control-line-spec =
     tie.close
     (tie.spec
     (λ c κs. search needs)
+    (λ c. search needs)
+    (λ c. search needs)
+    (λ c κs. search needs)
     returns
-    (λ c κs. search needs)
-    (λ c. search needs)
-    (λ c. search needs)
-    (λ c κs. search needs)
-    returns-2
-    returns-3)
+    returns-2)

@@ -5,11 +5,11 @@ use Rattle.listing.proofs.entry.entry_at.Tie as tie
 
 returns : tie.Need-returns
 unfolding entryAt
-returns c = rw (c .line-with .ensures, ← c .before .before .before .decode-at .ensures, c .before .enum-told .given .1)
+returns c = rw (c .line-with .ensures, ← c .before .before .before .decode-at .ensures .instruction, c .before .enum-told .given .1)
 
 returns-2 : tie.Need-returns-2
 unfolding entryAt entryFor
-returns-2 c = rw (c .line-of .ensures, c .before .operand-of .ensures, c .before .before .peek2 .ensures, c .before .before .before .wrapping-add2 .ensures, c .before .before .before .before .peek .ensures, c .before .before .before .before .before .wrapping-add .ensures, c .before .before .before .before .before .before .row-of .ensures, ← c .before .before .before .before .before .before .before .before .before .before .decode-at .ensures, c .before .before .before .before .before .before .before .before .decoded .given .1)
+returns-2 c = rw (c .line-of .ensures, c .before .operand-of .ensures, c .before .before .read2 .ensures, c .before .before .before .wrapping-add2 .ensures, c .before .before .before .before .read .ensures, c .before .before .before .before .before .wrapping-add .ensures, c .before .before .before .before .before .before .row-of .ensures, ← c .before .before .before .before .before .before .before .before .before .before .decode-at .ensures .instruction, c .before .before .before .before .before .before .before .before .decoded .given .1)
 
 pub entry-at-spec : {M : Type 1} → statement M
 entry-at-spec =

@@ -5,22 +5,8 @@ use Rattle.listing.proofs.entry.single_line.Tie as tie
 
 returns : tie.Need-returns
 unfolding singleLine
-returns c = rw (c .line-with .ensures, c .before .if1 .taken)
-
-returns-2 : tie.Need-returns-2
-unfolding singleLine
-returns-2 c = rw (c .line-with2 .ensures, c .before .if1 .left)
+returns c = rw (c .line-with .ensures)
 
 pub single-line-spec : {M : Type 1} → statement M
 single-line-spec =
-    tie.close
-    (tie.spec
-    (λ c. search needs)
-    (λ c. search needs)
-    (λ c κs. search needs)
-    (λ c. search needs)
-    (λ c. search needs)
-    (λ c. search needs)
-    (λ c κs. search needs)
-    returns
-    returns-2)
+    tie.close (tie.spec (λ c. search needs) (λ c. search needs) (λ c. search needs) (λ c κs. search needs) returns)

@@ -1,4 +1,3 @@
-use Rattle.listing.specs.Inner.{paddedOf}
 -- `spells`: the loop's invariant is that the rests from i on are the same text exactly if the line and the text are.
 use borrow.Author.Needs.{needs}
 use Prim.Native.Nat.{_-_, _≤_}

@@ -1,4 +1,3 @@
-use Rattle.listing.specs.Inner.{paddedOf}
 -- `write`: the loop's invariant is that the first i bytes of the room are the line's, and the others as they were.
 use borrow.Author.Needs.{needs}
 use Prim.Native.Nat.{_-_, _≤_}

@@ -2,7 +2,7 @@
 use native.Mathlib.Omega.{arith}
 use borrow.Author.Needs.{needs}
 use lib.Dec.{lit≤}
-use Rattle.memory.specs.Memory.{peekOf}
+use Rattle.memory.specs.Bus.{busOf, readOf}
 use Rattle.report.proofs.LineLaws.{instruction-pieces}
 use Rattle.report.proofs.CallLaws.{listed-line, listed-surely}
 use Rattle.report.proofs.PageLaws.{puts-then, puts-as}
@@ -27,7 +27,7 @@ returns c =
     let l = listed-line _ _ _ _ _ (c .before .before .before .before .before .before .before .before .before .before .before .before .before .before .before .before .before .before .disassemble .ensures) (c .before .before .before .before .before .before .before .before .before .before .before .before .before .before .before .before .before .before .before .before .before .before .pre .0) (lit≤ tt) (c .before .before .before .before .before .before .before .before .before .before .before .before .before .before .before .listed .given .1) in
     record {
       puts =
-          puts-as (instruction-pieces (peekOf (a .memory .now)) (a .address) (a .double))
+          puts-as (instruction-pieces (readOf (busOf (a .memory .now))) (a .address) (a .double))
           (puts-then (c .before .before .before .before .before .before .before .before .before .before .before .before .put-field .ensures .0) (puts-then (puts-as (l .text-is) (c .before .before .before .before .before .before .put-bytes .ensures)) (c .before .before .end-line .ensures)));
       words = l .words-are;
       under = l .next-is;

@@ -2,7 +2,7 @@
 use Prim.Native.Nat.{_+_, _-_}
 use native.Mathlib.Omega.{arith}
 use borrow.Author.Needs.{needs}
-use Rattle.memory.specs.Memory.{peekOf}
+use Rattle.memory.specs.Bus.{busOf, readOf}
 use Rattle.report.proofs.LineLaws.{words-some}
 use Rattle.report.proofs.WalkLaws.{Listed, listed-none, listed-length, listed-on, listed-end}
 use Rattle.report.proofs.instructions.put_lines.Statement.{statement}
@@ -26,7 +26,7 @@ add-lines c = omega (arith, c .before .before .before .before .before .before .l
 
 loop-less : tie.Need-loop-less Inv-loop μ-loop
 loop-less c =
-    omega (arith, c .before .before .before .put-line .ensures .words, words-some (peekOf (c .before .before .before .before .before .before .before .before .before .args .memory .now)) (c .before .before .before .before .before .before .loop .next) (c .before .before .before .before .before .before .loop .double))
+    omega (arith, c .before .before .before .put-line .ensures .words, words-some (readOf (busOf (c .before .before .before .before .before .before .before .before .before .args .memory .now))) (c .before .before .before .before .before .before .loop .next) (c .before .before .before .before .before .before .loop .double))
 
 loop-again : tie.Need-loop-again Inv-loop μ-loop
 loop-again c = listed-on (c .before .before .before .before .before .before .loop .inv) (c .before .before .before .before .before .loop-test .taken) (c .before .before .before .put-line .ensures)

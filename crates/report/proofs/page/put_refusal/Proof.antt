@@ -1,13 +1,13 @@
 -- The word, the refusal's number and the line's end.
 use borrow.Author.Needs.{needs}
+use Rattle.refusal.proofs.Laws.{numbers-low}
 use Rattle.report.specs.Report.{refusedLine}
-use Rattle.report.proofs.CallLaws.{number-short}
 use Rattle.report.proofs.PageLaws.{puts-then}
 use Rattle.report.proofs.page.put_refusal.Statement.{statement}
 use Rattle.report.proofs.page.put_refusal.Tie as tie
 
 put-decimal-requires : tie.Need-put-decimal-requires
-put-decimal-requires c κs = (rw (c .number .ensures) (number-short (c .before .before .before .before .before .before .before .before .args .refusal)), search needs)
+put-decimal-requires c κs = (rw (c .number .ensures) (numbers-low (c .before .before .before .before .before .before .before .before .args .refusal)), search needs)
 
 returns : tie.Need-returns
 unfolding refusedLine
