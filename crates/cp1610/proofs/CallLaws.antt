@@ -1,6 +1,6 @@
 -- The laws of `specs/Laws` on words and on steps.
 use Prim.Native.Nat.{ℕ, _≤_, _<_, _/_, _%_}
-use mathlib.Core.Path.{_≡_, refl, ap, sym, _∙_}
+use mathlib.Core.Path.{_≡_, refl, ap, sym, subst, _∙_}
 use mathlib.Core.Bool.{Bool, true, false, cond, false≢true}
 use mathlib.Core.List.{List, [], _∷_, map}
 use native.Mathlib.Omega.{arith}
@@ -8,18 +8,20 @@ use borrow.Author.Tests.{ltb-true, lt-ltb, le-ltb}
 use lib.ListN.{length, length-drop}
 use Rattle.refusal.specs.declared.Refusal.{Refusal}
 use Rattle.refusal.specs.Refusals.{refusalNumber}
+use Rattle.refusal.specs.Report.{Report, refused, answered}
 use Rattle.refusal.proofs.Laws.{numbers-low}
+use Rattle.refusal.proofs.ReportLaws.{no-answer}
 use Rattle.word.proofs.Choice.{cond-both}
-use Rattle.cpu.specs.declared.State.{State}
+use Rattle.memory.specs.Bus.{Bus}
 use Rattle.cpu.specs.declared.Lines.{Lines}
-use Rattle.cpu.specs.State.{interruptedRegisters}
-use Rattle.cpu.specs.Change.{registersAfter}
-use Rattle.cpu.specs.Answer.{Reported, refused, answered}
-use Rattle.cpu.specs.Step.{Action, Outcome, made, refuse, granted, interrupted, executed, actionOf, stepOf}
-use Rattle.cpu.specs.Steps.{Moment, stepsFrom}
+use Rattle.cpu.specs.declared.Stepped.{Stepped}
+use Rattle.cpu.specs.Machine.{Machine}
+use Rattle.cpu.specs.Answer.{StepDone, stepReport, cyclesOf}
+use Rattle.cpu.specs.Step.{Action, Outcome, refusedStep, granted, interrupted, executedFrom, executed, stepOf, outcome}
+use Rattle.cpu.specs.Steps.{StepMade, stepsFrom}
 use Rattle.cpu.specs.Laws.{Costs}
-use Rattle.cpu.proofs.StepLaws.{by-action}
-use Rattle.cpu.proofs.Laws.{refused-keeps-all, every-cost}
+use Rattle.cpu.proofs.ActionLaws.{by-action, refused-keeps-all, every-cost, cycles-most}
+use Rattle.cpu.proofs.SoundLaws.{keeps-eight}
 use Rattle.cp1610.specs.Words.{stateLength, eight, isSet, flagWord, unpacked, packed, linesOf}
 use Rattle.cp1610.specs.Answers.{isRefusal, successWord, answerWord}
 use Rattle.cp1610.specs.Call.{Called, isShort, handedBack, stepCall}
@@ -43,11 +45,11 @@ set-flag false = refl
 
 pub unpacks-packed : UnpacksPacked
 unfolding unpacked packed
-unpacks-packed words st e = simp set-flag (rw (eight-same (st .registers) e))
+unpacks-packed words m e = simp set-flag (rw (eight-same (m .registers) e))
 
-pub keeps-rest : (words : List ℕ) (st : State) → KeepsRest words st
+pub keeps-rest : (words : List ℕ) (m : Machine) → KeepsRest words m
 unfolding packed
-keeps-rest words st = record { rest = refl; size = λ h. omega (arith, length-drop stateLength words) }
+keeps-rest words m = record { rest = refl; size = λ h. omega (arith, length-drop stateLength words) }
 
 -- no refusal's number reaches the kinds
 pub number-low : (r : Refusal) → isRefusal (refusalNumber r) ≡ true
@@ -71,63 +73,84 @@ module _ (kind value : ℕ) (some : 1 ≤ kind) (low : value < 0x100000000) wher
   unfolding successWord
   success-value = omega arith
 
-  -- and so is a state with eight registers from the words
-  success-read : (words m : List ℕ) (st : State) → length (st .registers) ≡ 8 → let o : Outcome = record { state = st; answer = answered kind value; memory = m } in readCall (handedBack words o) ≡ o
-  success-read words m st e = rw (success-high kind value some, success-kind, success-value, unpacks-packed words st e)
+-- what is read back from words: a refusal that left their machine, or an answer with eight registers
+abbrev Readable : List ℕ → Machine → Report StepDone → Type 0
+Readable words m (refused n) = (isRefusal n ≡ true) × (m ≡ unpacked words)
+Readable words m (answered x) = (1 ≤ x .kind) × (x .cycles < 0x100000000) × (length (m .registers) ≡ 8)
 
-refused-read : (words m : List ℕ) (n : ℕ) → isRefusal n ≡ true → let o : Outcome = record { state = unpacked words; answer = refused n; memory = m } in readCall (handedBack words o) ≡ o
-refused-read words m n e = rw e
+read-back : (words : List ℕ) (m : Machine) (b : Bus) (a : Report StepDone) → Readable words m a → let o : Outcome = record { machine = m; answer = a; bus = b } in readCall (handedBack words o) ≡ o
+read-back words m b (refused n) h = rw (h .0, h .1)
+read-back words m b (answered x) h =
+    rw (
+      success-high (x .kind) (x .cycles) (h .0),
+      success-kind (x .kind) (x .cycles) (h .0) (h .1),
+      success-value (x .kind) (x .cycles) (h .0) (h .1),
+      unpacks-packed words m (h .2),
+    )
 
--- the outcome of a step of the state that words stand for is read back from them
-outcome-read : (words m : List ℕ) (l : Lines) → let o : Outcome = stepOf (unpacked words) m l in readCall (handedBack words o) ≡ o
-unfolding stepOf refuse granted interrupted executed interruptedRegisters registersAfter unpacked
-outcome-read words m l =
-    by-action (λ (a : Action). actionOf (unpacked words) m l ≡ a → readCall (handedBack words (made m a)) ≡ made m a) (unpacked words) m l
-    (λ r e. refused-read words m (refusalNumber r) (number-low r))
-    (λ k e. success-read 3 1 (omega arith) (omega arith) words _ _ refl)
-    (λ k e. success-read 4 12 (omega arith) (omega arith) words _ _ refl)
-    (λ k i e.
-    let cost = every-cost (unpacked words) m l 5 _ (ap (λ (a : Action). a .answer) e) .instruction refl in
-    success-read 5 _ (omega arith) (omega arith) words _ _ refl)
-    refl
+-- a step's refusal has one of document 01's numbers
+step-number : (m : Machine) (b : Bus) (l : Lines) (n : ℕ) → stepOf m b l .answer ≡ refused n → isRefusal n ≡ true
+unfolding stepOf refusedStep granted interrupted executedFrom executed
+step-number m b l n =
+    by-action (λ (a : Action). a .answer ≡ refused n → isRefusal n ≡ true) m b l
+    (λ r e. let q : refusalNumber r ≡ n = cc in subst (λ (x : ℕ). isRefusal x ≡ true) q (number-low r))
+    (λ e. no-answer (sym e))
+    (λ e. no-answer (sym e))
+    (λ i e. no-answer (sym e))
 
-called-long : (words m : List ℕ) (n : ℕ) → stateLength ≤ length words → stepCall words m n ≡ handedBack words (stepOf (unpacked words) m (linesOf n))
+-- the outcome of a step of the machine that words stand for is read back from them
+step-read : (words : List ℕ) (b : Bus) (l : Lines) → let o : Outcome = stepOf (unpacked words) b l in readCall (handedBack words o) ≡ o
+unfolding unpacked
+step-read words b l = let o : Outcome = stepOf (unpacked words) b l in read-back words (o .machine) (o .bus) (o .answer) (go (o .answer) refl)
+  where
+    go : (a : Report StepDone) → stepOf (unpacked words) b l .answer ≡ a → Readable words (stepOf (unpacked words) b l .machine) a
+    go (refused n) e = (step-number (unpacked words) b l n e, refused-keeps-all (unpacked words) b l n e .0)
+    go (answered x) e =
+        let costs = every-cost (unpacked words) b l x e .kinds in
+        let most = subst (λ (a : Report StepDone). cyclesOf a ≤ 12) e (cycles-most (unpacked words) b l) in
+        (omega (arith, costs), omega (arith, most), keeps-eight (unpacked words) b l refl)
+
+-- and its cycles fit the low half of a result
+pub step-cycles-low : (x : Stepped) (n : List ℕ) (m : Machine) (b : Bus) (l : Lines) → outcome x n ≡ stepOf m b l → cyclesOf (stepReport (x .answer)) < 0x100000000
+step-cycles-low x n m b l e = omega (arith, ap (λ (o : Outcome). cyclesOf (o .answer)) e, cycles-most m b l)
+
+called-long : (words : List ℕ) (b : Bus) (n : ℕ) → stateLength ≤ length words → stepCall words b n ≡ handedBack words (stepOf (unpacked words) b (linesOf n))
 unfolding stepCall
-called-long words m n h = rw (le-ltb (length words) stateLength h)
+called-long words b n h = rw (le-ltb (length words) stateLength h)
 
 pub call-is-step : CallIsStep
-call-is-step words m n h = ap readCall (called-long words m n h) ∙ outcome-read words m (linesOf n)
+call-is-step words b n h = ap readCall (called-long words b n h) ∙ step-read words b (linesOf n)
 
 -- an answer whose word is below the kinds is a refusal
-is-refused : (a : Reported) → ((kind cycles : ℕ) → a ≡ answered kind cycles → Costs kind cycles) → isRefusal (answerWord a) ≡ true → (n : ℕ) × (a ≡ refused n)
+is-refused : (a : Report StepDone) → ((x : StepDone) → a ≡ answered x → Costs (x .kind) (x .cycles)) → isRefusal (answerWord a) ≡ true → (n : ℕ) × (a ≡ refused n)
 unfolding successWord
 is-refused (refused n) costs e = (n, refl)
-is-refused (answered kind cycles) costs e = absurd (omega (arith, costs kind cycles refl .kinds, ltb-true (successWord kind cycles) 0x100000000 e))
+is-refused (answered x) costs e = absurd (omega (arith, costs x refl .kinds, ltb-true (successWord (x .kind) (x .cycles)) 0x100000000 e))
 
 -- a refused step leaves the state's words and the memory
-pub refused-step : (words m : List ℕ) (n : ℕ) → let c : Called = stepCall words m n in isRefusal (c .result) ≡ true → (c .state ≡ words) × (c .memory ≡ m)
+pub refused-step : (words : List ℕ) (b : Bus) (n : ℕ) → let c : Called = stepCall words b n in isRefusal (c .result) ≡ true → (c .state ≡ words) × (c .bus ≡ b)
 unfolding stepCall
-refused-step words m n =
-    cond-both (λ (c : Called). isRefusal (c .result) ≡ true → (c .state ≡ words) × (c .memory ≡ m)) (isShort stateLength words)
+refused-step words b n =
+    cond-both (λ (c : Called). isRefusal (c .result) ≡ true → (c .state ≡ words) × (c .bus ≡ b)) (isShort stateLength words)
     (λ e. (refl, refl))
     (λ e.
-    let o : Outcome = stepOf (unpacked words) m (linesOf n) in
-    let r = is-refused (o .answer) (every-cost (unpacked words) m (linesOf n)) e in
-    (rw e, refused-keeps-all (unpacked words) m (linesOf n) (r .0) (r .1) .1))
+    let o : Outcome = stepOf (unpacked words) b (linesOf n) in
+    let r = is-refused (o .answer) (every-cost (unpacked words) b (linesOf n)) e in
+    (rw e, refused-keeps-all (unpacked words) b (linesOf n) (r .0) (r .1) .1))
 
-stays-long : (words m : List ℕ) (n : ℕ) → stateLength ≤ length words → stateLength ≤ length (stepCall words m n .state)
+stays-long : (words : List ℕ) (b : Bus) (n : ℕ) → stateLength ≤ length words → stateLength ≤ length (stepCall words b n .state)
 unfolding packed
-stays-long words m n h =
-    rw (called-long words m n h) (by-refusal (isRefusal (answerWord (stepOf (unpacked words) m (linesOf n) .answer))))
+stays-long words b n h =
+    rw (called-long words b n h) (by-refusal (isRefusal (answerWord (stepOf (unpacked words) b (linesOf n) .answer))))
   where
-    by-refusal : (b : Bool) → stateLength ≤ length (cond b words (packed words (stepOf (unpacked words) m (linesOf n) .state)))
+    by-refusal : (t : Bool) → stateLength ≤ length (cond t words (packed words (stepOf (unpacked words) b (linesOf n) .machine)))
     by-refusal true = h
     by-refusal false = omega arith
 
 pub calls-are-steps : CallsAreSteps
 unfolding callsFrom stepsFrom
-calls-are-steps words m [] h = refl
-calls-are-steps words m (n ∷ ns) h =
-    let c : Called = stepCall words m n in
-    ap (λ (t : List Outcome). readCall c ∷ t) (calls-are-steps (c .state) (c .memory) ns (stays-long words m n h))
-    ∙ ap (λ (o : Outcome). o ∷ map (λ (x : Moment). x .left) (stepsFrom (o .state) (o .memory) (map linesOf ns))) (call-is-step words m n h)
+calls-are-steps words b [] h = refl
+calls-are-steps words b (n ∷ ns) h =
+    let c : Called = stepCall words b n in
+    ap (λ (t : List Outcome). readCall c ∷ t) (calls-are-steps (c .state) (c .bus) ns (stays-long words b n h))
+    ∙ ap (λ (o : Outcome). o ∷ map (λ (x : StepMade). x .left) (stepsFrom (o .machine) (o .bus) (map linesOf ns))) (call-is-step words b n h)

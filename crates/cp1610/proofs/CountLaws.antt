@@ -9,15 +9,17 @@ use borrow.Author.Tests.{ltb-false}
 use lib.Dec.{eqb, ltb}
 use lib.ListN.{length, drop, length-drop}
 use Rattle.refusal.specs.declared.Refusal.the-variants.{ImageRoomTooSmall}
+use Rattle.refusal.specs.Report.{Report, refused, answered}
 use Rattle.word.proofs.Choice.{cond-both}
-use Rattle.memory.specs.Memory.{peekOf, tooLong}
+use Rattle.memory.specs.Memory.{tooLong}
+use Rattle.memory.specs.Bus.{Bus, readOf, admissionOf}
+use Rattle.memory.proofs.BusLaws.{unless-both}
 use Rattle.image.specs.declared.LoadAnswer.{LoadAnswer}
 use Rattle.image.specs.declared.LoadAnswer.the-variants.{Loaded}
 use Rattle.image.specs.declared.WriteAnswer.{WriteAnswer}
 use Rattle.image.specs.declared.WriteAnswer.the-variants.{Written}
 use Rattle.image.specs.Bytes.{wordAt, overwrite}
 use Rattle.image.specs.Format.{recordLimit, idMark, atMark, okMark, Record}
-use Rattle.image.specs.Answer.{Reported, refused, answered}
 use Rattle.image.specs.Read.{headOf, placeOf, recordOf, tailOf, partOf, Body, whole, broken, withRecord, follow, bodyFrom, bodyOf}
 use Rattle.image.specs.Load.{Loading, isFor, sumAgrees, sumTested, boardTested, loadOf, loaded}
 use Rattle.image.specs.Write.{Writing, refuseRoom, regionImage, writing, writeOf, written}
@@ -30,7 +32,7 @@ use Rattle.listing.proofs.Lines.{text-length}
 use Rattle.listing.proofs.Table.{template-most}
 
 -- the number that a call of image files answers, and 0 where it is refused
-abbrev countOf : Reported → ℕ
+abbrev countOf : Report ℕ → ℕ
 countOf (refused n) = 0
 countOf (answered n) = n
 
@@ -112,14 +114,14 @@ sizeOf (listed size words double) = size
 abbrev LowList : Disassembly → Type 0
 LowList d = sizeOf (d .answer) ≤ 14
 
-list-size : (m : List ℕ) (at : ℕ) (double : Bool) (room : List ℕ) → sizeOf (disassembleOf m at double room .answer) ≤ 14
+list-size : (b : Bus) (at : ℕ) (double : Bool) (room : List ℕ) → sizeOf (disassembleOf b at double room .answer) ≤ 14
 unfolding disassembleOf lineWritten
-list-size m at double room =
-    cond-both LowList (tooLong m) (omega arith)
+list-size b at double room =
+    unless-both LowList (admissionOf b) (λ r. omega arith)
     (cond-both LowList (ltb (length room) 16) (omega arith)
-    (rw (text-length (entryAt (peekOf m) at double .line)) (template-most (entryAt (peekOf m) at double .line .row) (entry-in (peekOf m) at double))))
+    (rw (text-length (entryAt (readOf b) at double .line)) (template-most (entryAt (readOf b) at double .line .row) (entry-in (readOf b) at double))))
 
-pub listed-size : (m : List ℕ) (at : ℕ) (double : Bool) (room after : List ℕ) (x : Listing) (size words : ℕ) (next : Bool) → disassembly x after ≡ disassembleOf m at double room → x ≡ Listed size words next → size ≤ 14
-listed-size m at double room after x size words next e p =
-    let q : size ≡ sizeOf (disassembleOf m at double room .answer) = ap (λ (y : Listing). sizeOf (disassembly y after .answer)) (sym p) ∙ ap (λ (d : Disassembly). sizeOf (d .answer)) e in
-    rw q (list-size m at double room)
+pub listed-size : (b : Bus) (at : ℕ) (double : Bool) (room after : List ℕ) (x : Listing) (size words : ℕ) (next : Bool) → disassembly x after ≡ disassembleOf b at double room → x ≡ Listed size words next → size ≤ 14
+listed-size b at double room after x size words next e p =
+    let q : size ≡ sizeOf (disassembleOf b at double room .answer) = ap (λ (y : Listing). sizeOf (disassembly y after .answer)) (sym p) ∙ ap (λ (d : Disassembly). sizeOf (d .answer)) e in
+    rw q (list-size b at double room)

@@ -7,11 +7,11 @@ use native.Mathlib.Omega.{arith}
 use mir.Val.{boolByte}
 use lib.ListN.{length, getD, drop}
 use lib.Seq.{sets, sets-eq}
-use Rattle.cpu.specs.declared.State.{State}
-use Rattle.run.specs.declared.Cause.{Cause}
+use Rattle.cpu.specs.Machine.{Machine}
+use Rattle.run.specs.Run.{RunDone}
 use Rattle.meter.specs.Answer.{Longest, noWait, longest, Lowest, noOver, overAt}
-use Rattle.cp1610.specs.Words.{stateLength, eight, flagWord, statusWords, packed}
-use Rattle.cp1610.specs.Answers.{runLength, causeNumber, runWords}
+use Rattle.cp1610.specs.Words.{stateLength, eight, flagWord, markWords, packed}
+use Rattle.cp1610.specs.Answers.{runLength, runWords}
 use Rattle.cp1610.specs.MeterCall.{regionLength, longestWords, lowestWords, regionWords}
 use Rattle.cp1610.specs.ListingCall.{lineWords, listLength, listWords}
 
@@ -20,15 +20,15 @@ pub cast-flag : (b : Bool) → boolByte b ≡ flagWord b
 cast-flag true = refl
 cast-flag false = refl
 
--- the words of a state, stored one by one
-pub stored-words : (words : List ℕ) (st : State) → stateLength ≤ length words → sets words 0 (eight (st .registers) ++ statusWords (st .status)) ≡ packed words st
+-- the words of a machine, stored one by one
+pub stored-words : (words : List ℕ) (m : Machine) → stateLength ≤ length words → sets words 0 (eight (m .registers) ++ markWords m) ≡ packed words m
 unfolding packed
-stored-words words st h = sets-eq (eight (st .registers) ++ statusWords (st .status)) words 0 h
+stored-words words m h = sets-eq (eight (m .registers) ++ markWords m) words 0 h
 
 -- and what a run reports
-pub stored-run : (out : List ℕ) (steps cycles : ℕ) (cause : Cause) → runLength ≤ length out → sets out 0 (steps ∷ cycles ∷ causeNumber cause ∷ []) ≡ runWords out steps cycles cause
+pub stored-run : (out : List ℕ) (x : RunDone) → runLength ≤ length out → sets out 0 (x .steps ∷ x .cycles ∷ x .cause ∷ []) ≡ runWords out x
 unfolding runWords
-stored-run out steps cycles cause h = sets-eq (steps ∷ cycles ∷ causeNumber cause ∷ []) out 0 h
+stored-run out x h = sets-eq (x .steps ∷ x .cycles ∷ x .cause ∷ []) out 0 h
 
 -- and what a region names
 pub stored-region : (out : List ℕ) (l : Longest) (o : Lowest) → regionLength ≤ length out → sets out 0 (getD (longestWords l) 0 0 ∷ getD (longestWords l) 1 0 ∷ getD (longestWords l) 2 0 ∷ getD (lowestWords o) 0 0 ∷ getD (lowestWords o) 1 0 ∷ []) ≡ regionWords out l o

@@ -4,9 +4,9 @@ use mathlib.Core.Bool.{Bool}
 use mathlib.Core.List.{List, _∷_}
 use lib.Dec.{ltb}
 use lib.ListN.{drop}
-use Rattle.cpu.specs.Answer.{Reported, refused, answered}
-use Rattle.run.specs.declared.Cause.{Cause}
-use Rattle.run.specs.declared.Cause.the-variants.{Halted, Unspecified, Budget}
+use Rattle.refusal.specs.Report.{Report, refused, answered}
+use Rattle.cpu.specs.Answer.{StepDone}
+use Rattle.run.specs.Run.{RunDone}
 
 -- "A value below 2^32 is a refusal"
 abbrev pub isRefusal : ℕ → Bool
@@ -21,20 +21,14 @@ unfoldable pub successWord : ℕ → ℕ → ℕ
 successWord kind value = kind * 0x100000000 + value
 
 -- a refusal is document 01's number, and a step's kinds are its numbers 3, 4 and 5
-abbrev pub answerWord : Reported → ℕ
+abbrev pub answerWord : Report StepDone → ℕ
 answerWord (refused n) = n
-answerWord (answered kind cycles) = successWord kind cycles
+answerWord (answered x) = successWord (x .kind) (x .cycles)
 
 -- "out = steps, cycles, cause"
 abbrev pub runLength : ℕ
 runLength = 3
 
--- "0 halted, 1 unspecified, 2 budget"
-abbrev pub causeNumber : Cause → ℕ
-causeNumber Halted = 0
-causeNumber Unspecified = 1
-causeNumber Budget = 2
-
--- `out` after a run: "the items past what is named stay"
-unfoldable pub runWords : List ℕ → ℕ → ℕ → Cause → List ℕ
-runWords out steps cycles cause = steps ∷ cycles ∷ causeNumber cause ∷ drop runLength out
+-- `out` after a run: "the items past what is named stay"; "cause (0 halted, 1 unspecified, 2 budget)" is the run's own number
+unfoldable pub runWords : List ℕ → RunDone → List ℕ
+runWords out x = x .steps ∷ x .cycles ∷ x .cause ∷ drop runLength out

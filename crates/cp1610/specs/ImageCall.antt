@@ -1,13 +1,13 @@
 -- The C interface page, its table: what the calls of image files answer and leave.
 use Prim.Native.Nat.{ℕ}
 use mathlib.Core.List.{List}
-use Rattle.image.specs.Answer.{Reported, refused, answered}
+use Rattle.refusal.specs.Report.{Report, refused, answered}
 use Rattle.image.specs.Load.{Loading, loadOf}
 use Rattle.image.specs.Write.{Writing, writeOf}
 use Rattle.cp1610.specs.Answers.{successWord}
 
 -- "2^32 + number of records", "2^32 + length": kind 1, unless the number itself has more than 32 bits
-abbrev pub countWord : Reported → ℕ
+abbrev pub countWord : Report ℕ → ℕ
 countWord (refused n) = n
 countWord (answered n) = successWord 1 n
 

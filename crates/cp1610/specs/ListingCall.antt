@@ -3,6 +3,7 @@ use Prim.Native.Nat.{ℕ}
 use mathlib.Core.Bool.{Bool, cond}
 use mathlib.Core.List.{List, _∷_, _++_}
 use lib.ListN.{length, drop}
+use Rattle.memory.specs.Bus.{Bus}
 use Rattle.listing.specs.Answer.{ListingReport, refused, listed, AssemblyReport, rejected, assembled}
 use Rattle.listing.specs.Disassemble.{Disassembly, disassembleOf}
 use Rattle.listing.specs.Assemble.{assembleOf}
@@ -59,7 +60,7 @@ abbrev pub listHandedBack : List ℕ → Disassembly → ListCalled
 listHandedBack out d = listAnswered out (d .room) (d .answer)
 
 -- document 01's lister
-unfoldable pub listCall : List ℕ → ℕ → ℕ → List ℕ → List ℕ → ListCalled
-listCall m address d text out =
+unfoldable pub listCall : Bus → ℕ → ℕ → List ℕ → List ℕ → ListCalled
+listCall b address d text out =
     cond (isShort listLength out) (listCalled shortBuffer text out)
-    (listHandedBack out (disassembleOf m address (isSet d) text))
+    (listHandedBack out (disassembleOf b address (isSet d) text))

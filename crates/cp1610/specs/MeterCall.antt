@@ -3,7 +3,9 @@ use Prim.Native.Nat.{ℕ}
 use mathlib.Core.Bool.{cond}
 use mathlib.Core.List.{List, [], _∷_, _++_}
 use lib.ListN.{drop}
-use Rattle.meter.specs.Answer.{Answer, wait, over, halts, unspecified, Reported, refused, answered, Longest, noWait, longest, Lowest, noOver, overAt, Named}
+use Rattle.refusal.specs.Report.{Report, refused, answered}
+use Rattle.memory.specs.Bus.{Bus}
+use Rattle.meter.specs.Answer.{Answer, wait, over, halts, unspecified, Longest, noWait, longest, Lowest, noOver, overAt, Named}
 use Rattle.meter.specs.Meter.{waitOf, regionOf}
 use Rattle.cp1610.specs.Answers.{shortBuffer, successWord}
 use Rattle.cp1610.specs.Call.{isShort}
@@ -15,13 +17,13 @@ walkedWord over = successWord 2 0
 walkedWord halts = successWord 3 0
 walkedWord (unspecified address) = successWord 4 address
 
-abbrev pub waitWord : Reported Answer → ℕ
+abbrev pub waitWord : Report Answer → ℕ
 waitWord (refused n) = n
 waitWord (answered a) = walkedWord a
 
 -- document 01's wait meter for an address
-unfoldable pub waitCall : List ℕ → ℕ → ℕ → ℕ
-waitCall m address limit = waitWord (waitOf m address limit)
+unfoldable pub waitCall : Bus → ℕ → ℕ → ℕ
+waitCall b address limit = waitWord (waitOf b address limit)
 
 -- "out = has wait, longest, its start, has over, over start (0 where there is none)"
 abbrev pub regionLength : ℕ
@@ -48,12 +50,12 @@ abbrev pub outCalled : ℕ → List ℕ → OutCalled
 outCalled result out = record { result = result; out = out }
 
 -- a region as the caller sees it: "kind 1"; a refused call leaves `out` as it is
-abbrev pub regionHandedBack : List ℕ → Reported Named → OutCalled
+abbrev pub regionHandedBack : List ℕ → Report Named → OutCalled
 regionHandedBack out (refused n) = outCalled n out
 regionHandedBack out (answered n) =
     outCalled (successWord 1 0) (regionWords out (n .longest-wait) (n .lowest-over))
 
 -- document 01's wait meter for a region
-unfoldable pub regionCall : List ℕ → ℕ → ℕ → ℕ → List ℕ → OutCalled
-regionCall m first last limit out =
-    cond (isShort regionLength out) (outCalled shortBuffer out) (regionHandedBack out (regionOf m first last limit))
+unfoldable pub regionCall : Bus → ℕ → ℕ → ℕ → List ℕ → OutCalled
+regionCall b first last limit out =
+    cond (isShort regionLength out) (outCalled shortBuffer out) (regionHandedBack out (regionOf b first last limit))

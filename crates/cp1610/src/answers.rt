@@ -2,8 +2,9 @@
 ghost use mathlib.Core.Path.{_≡_};
 ghost use Prim.Native.Nat.{_≤_, _<_};
 ghost use lib.ListN.{length};
-ghost use Rattle.cpu.specs.Answer.{reported};
-ghost use Rattle.cp1610.specs.Answers.{isRefusal, successWord, answerWord, runLength, causeNumber, runWords};
+ghost use Rattle.cpu.specs.Answer.{stepReport, cyclesOf};
+ghost use Rattle.run.specs.Run.{causeNumber};
+ghost use Rattle.cp1610.specs.Answers.{isRefusal, successWord, answerWord, runLength, runWords};
 use cpu::StepAnswer;
 use run::Cause;
 
@@ -46,15 +47,16 @@ pub(crate) fn is_refusal(result: u64) -> bool
     result < HIGH_HALF
 }
 
-// What a step answers.
+// What a step answers, where its cycles fit the low half.
 pub(crate) fn step_word(answer: StepAnswer) -> u64
-    ensures { λ r. ⌜ r ≡ answerWord (reported answer) ⌝ }
+    requires { ⌜ cyclesOf (stepReport answer) < 0x100000000 ⌝ }
+    ensures { λ r. ⌜ r ≡ answerWord (stepReport answer) ⌝ }
 {
     match answer {
         StepAnswer::Refused(refusal) => refusal::number(refusal) as u64,
-        StepAnswer::Granted(cycles) => success(GRANTED, cycles as u32),
-        StepAnswer::Interrupted(cycles) => success(INTERRUPTED, cycles as u32),
-        StepAnswer::Executed(cycles) => success(EXECUTED, cycles as u32),
+        StepAnswer::Granted { cycles } => success(GRANTED, cycles as u32),
+        StepAnswer::Interrupted { cycles } => success(INTERRUPTED, cycles as u32),
+        StepAnswer::Executed { cycles } => success(EXECUTED, cycles as u32),
     }
 }
 
@@ -71,7 +73,7 @@ fn cause_number(cause: Cause) -> u32
 // What a run reports, written over the first three items.
 pub(crate) fn put_run(out: &mut [u32], steps: u32, cycles: u32, cause: Cause)
     requires { ⌜ runLength ≤ length (now out) ⌝ }
-    ensures { λ r. ⌜ now (out .exit) ≡ runWords (now (out .entry)) steps cycles cause ⌝ }
+    ensures { λ r. ⌜ now (out .exit) ≡ runWords (now (out .entry)) (record { steps = steps; cycles = cycles; cause = causeNumber cause }) ⌝ }
 {
     out[0] = steps;
     out[1] = cycles;

@@ -1,6 +1,7 @@
 // The C interface: the functions of libcp1610.a. Each takes the caller's words, calls the proved function and hands its answer
 // back as words. docs/C-INTERFACE.md is the page for callers.
 ghost use mathlib.Core.Path.{_≡_};
+ghost use Rattle.memory.specs.Bus.{busOf};
 ghost use Rattle.cp1610.specs.Call.{stateCalled, called, runCalled, resetCall, stepCall, runCall};
 ghost use Rattle.cp1610.specs.MeterCall.{waitCall, outCalled, regionCall};
 ghost use Rattle.cp1610.specs.ImageCall.{loadCalled, loadCall, writeCalled, writeCall};
@@ -32,7 +33,7 @@ pub extern "C" fn cp1610_reset(state: &mut [u16]) -> u64
 // run's, so that the library holds the processor's step once.
 #[no_mangle]
 pub extern "C" fn cp1610_step(state: &mut [u16], mem: &mut [u16], lines: u32) -> u64
-    ensures { λ r. ⌜ called r (now (state .exit)) (now (mem .exit)) ≡ stepCall (now (state .entry)) (now (mem .entry)) lines ⌝ }
+    ensures { λ r. ⌜ called r (now (state .exit)) (busOf (now (mem .exit))) ≡ stepCall (now (state .entry)) (busOf (now (mem .entry))) lines ⌝ }
 {
     if state.len() < words::STATE_LENGTH {
         return answers::SHORT_BUFFER;
@@ -58,7 +59,7 @@ pub extern "C" fn cp1610_run(
     budget: u32,
     out: &mut [u32],
 ) -> u64
-    ensures { λ r. ⌜ runCalled r (now (state .exit)) (now (mem .exit)) (now (out .exit)) ≡ runCall (now (state .entry)) (now (mem .entry)) lines budget (now (out .entry)) ⌝ }
+    ensures { λ r. ⌜ runCalled r (now (state .exit)) (busOf (now (mem .exit))) (now (out .exit)) ≡ runCall (now (state .entry)) (busOf (now (mem .entry))) lines budget (now (out .entry)) ⌝ }
 {
     if state.len() < words::STATE_LENGTH {
         return answers::SHORT_BUFFER;
@@ -70,7 +71,11 @@ pub extern "C" fn cp1610_run(
     let answer = ran.answer;
     match answer {
         RunAnswer::Refused(refusal) => refusal::number(refusal) as u64,
-        RunAnswer::Ended(steps, cycles, cause) => {
+        RunAnswer::Ended {
+            steps,
+            cycles,
+            cause,
+        } => {
             let after = ran.state;
             words::pack(state, after);
             answers::put_run(out, steps, cycles, cause);
@@ -82,7 +87,7 @@ pub extern "C" fn cp1610_run(
 // The wait meter for an address.
 #[no_mangle]
 pub extern "C" fn cp1610_wait(mem: &[u16], address: u16, limit: u16) -> u64
-    ensures { λ r. ⌜ r ≡ waitCall (now (mem .entry)) address limit ⌝ }
+    ensures { λ r. ⌜ r ≡ waitCall (busOf (now (mem .entry))) address limit ⌝ }
 {
     meter_words::wait_word(meter::wait(mem, address, limit))
 }
@@ -96,7 +101,7 @@ pub extern "C" fn cp1610_region(
     limit: u16,
     out: &mut [u32],
 ) -> u64
-    ensures { λ r. ⌜ outCalled r (now (out .exit)) ≡ regionCall (now (mem .entry)) first last limit (now (out .entry)) ⌝ }
+    ensures { λ r. ⌜ outCalled r (now (out .exit)) ≡ regionCall (busOf (now (mem .entry))) first last limit (now (out .entry)) ⌝ }
 {
     if out.len() < meter_words::REGION_LENGTH {
         return answers::SHORT_BUFFER;
@@ -104,7 +109,7 @@ pub extern "C" fn cp1610_region(
     let answer = meter::region(mem, first, last, limit);
     match answer {
         RegionAnswer::Refused(refusal) => refusal::number(refusal) as u64,
-        RegionAnswer::Found(longest, lowest) => {
+        RegionAnswer::Found { longest, lowest } => {
             meter_words::put_region(out, longest, lowest);
             answers::success(answers::DONE, 0)
         }
@@ -120,7 +125,7 @@ pub extern "C" fn cp1610_list(
     text: &mut [u8],
     out: &mut [u32],
 ) -> u64
-    ensures { λ r. ⌜ listCalled r (now (text .exit)) (now (out .exit)) ≡ listCall (now (mem .entry)) address d (now (text .entry)) (now (out .entry)) ⌝ }
+    ensures { λ r. ⌜ listCalled r (now (text .exit)) (now (out .exit)) ≡ listCall (busOf (now (mem .entry))) address d (now (text .entry)) (now (out .entry)) ⌝ }
 {
     if out.len() < listing_words::LIST_LENGTH {
         return answers::SHORT_BUFFER;

@@ -1,6 +1,7 @@
 -- `cp1610_list`: a short buffer is refused; else the definition is rewritten back to what the lister answered; the text is short.
 use borrow.Author.Tests.{lt-ltb, le-ltb}
 use native.Mathlib.Omega.{arith}
+use Rattle.memory.specs.Bus.{busOf}
 use Rattle.cp1610.specs.Words.{isSet}
 use Rattle.cp1610.specs.ListingCall.{listCall}
 use Rattle.cp1610.proofs.CountLaws.{listed-size}
@@ -15,7 +16,7 @@ returns c = rw (lt-ltb _ _ (c .if1 .taken))
 cast-put-listing : tie.Need-cast-put-listing
 cast-put-listing c =
     let a = c .before .before .before .before .before .before .before .before .before .before .before .before .args in
-    let k = listed-size (a .mem .now) (a .address) (isSet (a .d)) (a .text .now) _ _ _ _ _ (c .before .before .before .before .before .before .disassemble .ensures) (c .before .before .answer2 .given .1) in
+    let k = listed-size (busOf (a .mem .now)) (a .address) (isSet (a .d)) (a .text .now) _ _ _ _ _ (c .before .before .before .before .before .before .disassemble .ensures) (c .before .before .answer2 .given .1) in
     omega (arith, k)
 
 returns-2 : tie.Need-returns-2

@@ -1,6 +1,7 @@
 -- `cp1610_step`: a short state is refused; else the definition is rewritten back to what was unpacked, stepped and answered.
 use borrow.Author.Tests.{lt-ltb, le-ltb}
 use Rattle.cp1610.specs.Call.{stepCall}
+use Rattle.cp1610.proofs.CallLaws.{step-cycles-low}
 use borrow.Author.Needs.{needs}
 use Rattle.cp1610.proofs.cp1610_step.Statement.{statement}
 use Rattle.cp1610.proofs.cp1610_step.Tie as tie
@@ -8,6 +9,9 @@ use Rattle.cp1610.proofs.cp1610_step.Tie as tie
 returns : tie.Need-returns
 unfolding stepCall
 returns c = rw (lt-ltb _ _ (c .if1 .taken))
+
+step-word-requires : tie.Need-step-word-requires
+step-word-requires c κs = step-cycles-low (c .before .before .one-step .result) _ _ _ _ (c .before .before .one-step .ensures)
 
 returns-2 : tie.Need-returns-2
 unfolding stepCall
@@ -25,7 +29,7 @@ cp1610-step-spec =
     (λ c κs. search needs)
     (λ c κs. search needs)
     (λ c κs. search needs)
-    (λ c κs. search needs)
+    step-word-requires
     (λ c κs. search needs)
     (λ c. search needs)
     (λ c. search needs)

@@ -12,7 +12,7 @@ slice-write-out-2 c = simp length-set (omega arith)
 returns : tie.Need-returns
 returns c =
     let start = c .before .before in
-    rw (c .cause-number .ensures) (stored-run (start .args .out .now) (start .args .steps) (start .args .cycles) (start .args .cause) (start .pre))
+    rw (c .cause-number .ensures) (stored-run (start .args .out .now) _ (start .pre))
 
 pub put-run-spec : {M : Type 1} → statement M
 put-run-spec =

@@ -1,6 +1,7 @@
 -- `pack`: eighteen stores in a row leave the words of the state and keep the rest.
 use native.Mathlib.Omega.{arith}
 use lib.ListN.{length-set}
+use Rattle.cpu.specs.Machine.{machineOf}
 use Rattle.cp1610.proofs.WordLaws.{cast-flag, stored-words}
 use borrow.Author.Needs.{needs}
 use Rattle.cp1610.proofs.words.pack.Statement.{statement}
@@ -9,7 +10,7 @@ use Rattle.cp1610.proofs.words.pack.Tie as tie
 returns : tie.Need-returns
 returns c =
     let start = c .before .before .before .before .before .before .before .before .before .before .before .before in
-    simp cast-flag (stored-words (start .args .words .now) (start .args .state) (start .pre))
+    simp cast-flag (stored-words (start .args .words .now) (machineOf (start .args .state)) (start .pre))
 
 pub pack-spec : {M : Type 1} → statement M
 pack-spec =
