@@ -1,3 +1,2 @@
--- The table of worked cases holds; and laws of words.
+-- The table of worked cases holds.
 pub mod Table
-pub mod TypeLaws

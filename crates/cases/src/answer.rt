@@ -26,9 +26,9 @@ fn refused(why: Refusal) -> Answer {
 pub(crate) fn of_step(given: StepAnswer) -> Answer {
     match given {
         StepAnswer::Refused(why) => refused(why),
-        StepAnswer::Granted(cycles) => numbered(b'G', cycles as u64, 0),
-        StepAnswer::Interrupted(cycles) => numbered(b'I', cycles as u64, 0),
-        StepAnswer::Executed(cycles) => numbered(b'E', cycles as u64, 0),
+        StepAnswer::Granted { cycles } => numbered(b'G', cycles, 0),
+        StepAnswer::Interrupted { cycles } => numbered(b'I', cycles, 0),
+        StepAnswer::Executed { cycles } => numbered(b'E', cycles, 0),
     }
 }
 
@@ -43,9 +43,11 @@ fn letter(cause: Cause) -> u8 {
 pub(crate) fn of_run(given: RunAnswer) -> Answer {
     match given {
         RunAnswer::Refused(why) => refused(why),
-        RunAnswer::Ended(steps, cycles, cause) => {
-            numbered(letter(cause), steps as u64, cycles as u64)
-        }
+        RunAnswer::Ended {
+            steps,
+            cycles,
+            cause,
+        } => numbered(letter(cause), steps as u64, cycles as u64),
     }
 }
 

@@ -3,7 +3,6 @@
 mod answer;
 mod form;
 mod rows;
-mod types;
 mod verdict;
 
 use crate::answer::Answer;
@@ -65,7 +64,6 @@ fn agrees(left: Left, after: &[u8], memory: &[u16], expected: &[u16]) -> bool {
     verdict::agree_state(state, rows::state_of(after))
         & verdict::agree_answer(given, rows::answer_of(after))
         & verdict::agree_memory(memory, expected)
-        & types::are_sound(state, memory)
 }
 
 // Makes the call, and compares. `expected` is the memory's twin, which gets the stores that the case names.

@@ -93,7 +93,7 @@ pub(crate) fn lay_after(memory: &mut [u16], before: &[u8], after: &[u8]) {
 fn put_words(memory: &mut [u16], words: &[u8]) {
     for i in 0..words.len() / 10 {
         let word = text::from_column(words, i * 10);
-        memory::poke(memory, hex_word(word, 1), hex_word(word, 6));
+        memory::store(memory, hex_word(word, 1), hex_word(word, 6));
     }
 }
 
@@ -153,9 +153,13 @@ fn name_width(row: &[u8]) -> usize
     ensures { λ r. ⌜ r < 12 ⌝ }
 {
     match text::byte_at(row, 61) {
+        // EXECUTED
         b'E' => 8,
+        // HALTED, BUDGET
         b'H' | b'B' => 6,
+        // INTERRUPTED, UNSPECIFIED
         b'I' | b'U' => 11,
+        // GRANTED, REFUSED
         _ => 7,
     }
 }

@@ -6,29 +6,24 @@ use libc::STDOUT_FILENO;
 
 // The program starts at $1000, where a reset does.
 const PROGRAM: [u16; 6] = [
+    // SDBD
     0x001,
+    // MVII #$1234,R0
     0x2B8,
     0x034,
-    0x012, // SDBD; MVII #$1234,R0
-    0x081, // MOVR R0,R1
-    0x009, // INCR R1
+    0x012,
+    // MOVR R0,R1
+    0x081,
+    // INCR R1
+    0x009,
 ];
 
 fn print_cycles(answer: StepAnswer) {
-    match answer {
-        StepAnswer::Refused(refusal) => {
-            io::write_all(STDOUT_FILENO, b"refused ");
-            io::print_decimal(STDOUT_FILENO, refusal::number(refusal) as u64);
-        }
-        StepAnswer::Granted(cycles) => {
-            io::print_decimal(STDOUT_FILENO, cycles as u64);
-        }
-        StepAnswer::Interrupted(cycles) => {
-            io::print_decimal(STDOUT_FILENO, cycles as u64);
-        }
-        StepAnswer::Executed(cycles) => {
-            io::print_decimal(STDOUT_FILENO, cycles as u64);
-        }
+    if let StepAnswer::Refused(refusal) = answer {
+        io::write_all(STDOUT_FILENO, b"refused ");
+        io::print_decimal(STDOUT_FILENO, refusal::number(refusal) as u64);
+    } else {
+        io::print_decimal(STDOUT_FILENO, cpu::cycles(answer));
     }
     io::write_all(STDOUT_FILENO, b"\n");
 }

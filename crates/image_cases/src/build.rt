@@ -34,7 +34,7 @@ pub(crate) fn put_pattern(memory: &mut [u16]) {
 pub(crate) fn put_cells(memory: &mut [u16], row: &[u8]) {
     let mut rest = row;
     while rest.len() > 0 {
-        memory::poke(memory, text::hex_word(rest, 0), text::hex_word(rest, 5));
+        memory::store(memory, text::hex_word(rest, 0), text::hex_word(rest, 5));
         let next = text::from_column(rest, 10);
         rest = next;
     }

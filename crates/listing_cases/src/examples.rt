@@ -28,7 +28,7 @@ fn is_text(line: Line, text: &[u8]) -> bool {
 }
 
 // An example that goes wrong is printed.
-fn example(tally: Tally, words: [u16; 3], count: u8, double: bool, text: &[u8]) -> Tally {
+fn example(tally: Tally, words: [u16; 3], count: u16, double: bool, text: &[u8]) -> Tally {
     let line = line_of(words, double);
     let lists = (line.words == count) & is_text(line, text);
     let well = lists & is_words(listing::assemble(text, double), words, count);

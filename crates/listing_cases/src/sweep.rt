@@ -8,7 +8,7 @@ use refusal::Refusal;
 pub(crate) struct Line {
     pub text: [u8; 16],
     pub length: usize,
-    pub words: u8,
+    pub words: u16,
     pub double: bool,
 }
 
@@ -68,7 +68,7 @@ fn third(pair: u16) -> u16 {
 }
 
 // Opcode and jump words are cut to ten bits, the two words of a read's immediate under D to eight.
-fn cut(memory: [u16; 3], words: u8) -> [u16; 3] {
+fn cut(memory: [u16; 3], words: u16) -> [u16; 3] {
     let opcode = memory[0] % 1024;
     if opcode == 4 {
         return [opcode, memory[1] % 1024, memory[2] % 1024];
@@ -80,7 +80,7 @@ fn cut(memory: [u16; 3], words: u8) -> [u16; 3] {
 }
 
 // Whether the answer is the first of the words, as many as were used.
-pub(crate) fn is_words(answer: Assembly, words: [u16; 3], count: u8) -> bool {
+pub(crate) fn is_words(answer: Assembly, words: [u16; 3], count: u16) -> bool {
     match answer {
         Assembly::Refused(_) => false,
         Assembly::One(w) => (count == 1) & (w == words[0]),

@@ -50,10 +50,10 @@ pub(crate) fn refused(number: u16) -> Seen {
 
 fn of_walked(walked: Walked) -> Seen {
     match walked {
-        Walked::Wait(cycles) => waits(cycles),
+        Walked::Wait { cycles, .. } => waits(cycles),
         Walked::Over => over(),
         Walked::Halts => halts(),
-        Walked::Unspecified(address) => unspecified(address),
+        Walked::Unspecified { address, .. } => unspecified(address),
     }
 }
 
@@ -116,7 +116,7 @@ pub(crate) fn rejected(number: u16) -> Named {
 fn of_longest(longest: LongestWait) -> Named {
     match longest {
         LongestWait::NoWait => nothing(),
-        LongestWait::Cycles(cycles, start) => with_wait(nothing(), cycles, start),
+        LongestWait::Cycles { cycles, start, .. } => with_wait(nothing(), cycles, start),
     }
 }
 
@@ -124,14 +124,18 @@ fn of_found(longest: LongestWait, lowest: LowestOver) -> Named {
     let named = of_longest(longest);
     match lowest {
         LowestOver::NoOver => named,
-        LowestOver::At(start) => with_over(named, start),
+        LowestOver::At { start, .. } => with_over(named, start),
     }
 }
 
 pub(crate) fn of_region(answer: RegionAnswer) -> Named {
     match answer {
         RegionAnswer::Refused(why) => rejected(refusal::number(why)),
-        RegionAnswer::Found(longest, lowest) => of_found(longest, lowest),
+        RegionAnswer::Found {
+            longest,
+            lowest,
+            ..
+        } => of_found(longest, lowest),
     }
 }
 

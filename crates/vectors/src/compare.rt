@@ -38,11 +38,10 @@ fn same_registers(state: State, machine: Machine) -> bool {
 
 // Whether the step made an instruction, and in so many cycles.
 fn executed_in(answer: StepAnswer, cycles: u16) -> bool {
-    match answer {
-        StepAnswer::Refused(_) => false,
-        StepAnswer::Granted(_) => false,
-        StepAnswer::Interrupted(_) => false,
-        StepAnswer::Executed(taken) => taken == cycles,
+    if let StepAnswer::Executed { cycles: taken } = answer {
+        taken == cycles as u64
+    } else {
+        false
     }
 }
 
