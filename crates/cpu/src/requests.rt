@@ -22,7 +22,7 @@ const INTERRUPT_CYCLES: u64 = 12;
 const INTERRUPT_ADDRESS: u16 = 0x1004;
 
 // The INTRM level recorded, and the pending mark.
-pub fn noted(status: Status, lines: Lines) -> Status
+pub(crate) fn noted(status: Status, lines: Lines) -> Status
     ensures { λ r. ⌜ r ≡ notedIn status lines ⌝ }
 {
     Status {
@@ -41,7 +41,7 @@ pub fn noted(status: Status, lines: Lines) -> Status
 
 // Which item of document 01's order a step goes by, from the status with INTRM noted. Quiet lines ask for nothing, so they are
 // looked at first.
-pub fn plan_of(status: Status, lines: Lines) -> Plan
+pub(crate) fn plan_of(status: Status, lines: Lines) -> Plan
     requires { ⌜ (lines .intrm ≡ true → status .pending ≡ false) ⌝ }
     ensures { λ r. ⌜ r ≡ planOf (machineIn [] status) lines ⌝ }
 {
@@ -98,7 +98,7 @@ fn interrupted_status(status: Status) -> Status
 }
 
 // Interrupt entry.
-pub fn interrupt(registers: [u16; 8], status: Status, mem: &mut [u16]) -> Stepped
+pub(crate) fn interrupt(registers: [u16; 8], status: Status, mem: &mut [u16]) -> Stepped
     ensures { λ r. ⌜ outcome r (now (mem .exit)) ≡ made (busOf (now (mem .entry))) (interrupted (machineIn registers status)) ⌝ }
 {
     memory::store(mem, registers[6], registers[7]);
