@@ -17,7 +17,7 @@ use Rattle.cpu.specs.Machine.{Machine, machineOf}
 use Rattle.cpu.specs.Answer.{StepDone, stepReport, cyclesOf, meetsUnspecified}
 use Rattle.cpu.specs.Step.{Outcome, outcome, refusedStep, stepOf, admittedStep}
 use Rattle.cpu.proofs.ActionLaws.{step-admitted, step-halted, admitted-most, uncharged-keeps-all}
-use Rattle.run.specs.Run.{RunOutcome, finish, goesOn, runOn}
+use Rattle.run.specs.Run.{RunOutcome, finish, stepsOn, runOn}
 use Rattle.run.specs.inner.Loop.{LoopEnd, unstepped, stop, loopFrom, loopOn, loopOf}
 use Rattle.run.proofs.RunLaws.{Goes, Rests, budget-spent, machine-halted, form-unspecified, rests, by-turns}
 
@@ -94,7 +94,7 @@ module _ (l : Lines) (budget : ℕ) where
           ∙ ap (λ (o : Outcome). endingOf l (stop steps cycles o)) e
           ∙ ap (endingOf l) (sym (loop-refused l budget steps cycles (from m b a) (ltb-true cycles budget p) (ap (λ (o : Outcome). cyclesOf (o .answer)) (sym e) ∙ z)))
 
-  end-alike : (m : Machine) (b : Bus) (steps cycles : ℕ) → admissionOf b ≡ Admitted → goesOn m b l budget cycles ≡ false → EndsAlike m b steps cycles (finish m b l steps cycles)
+  end-alike : (m : Machine) (b : Bus) (steps cycles : ℕ) → admissionOf b ≡ Admitted → stepsOn m b l budget cycles ≡ false → EndsAlike m b steps cycles (finish m b l steps cycles)
   end-alike m b steps cycles s e = go (rests m b l budget cycles e)
     where
       go : Rests m b l budget cycles → EndsAlike m b steps cycles (finish m b l steps cycles)

@@ -18,7 +18,7 @@ use Rattle.cpu.specs.Answer.{cyclesOf, meetsUnspecified}
 use Rattle.cpu.specs.Step.{Outcome, stepOf, admittedStep}
 use Rattle.cpu.proofs.ActionLaws.{step-admitted, step-charges, keeps-admission}
 use Rattle.run.specs.declared.Cause.the-variants.{Halted, Unspecified, Budget}
-use Rattle.run.specs.Run.{RunOutcome, refusedRun, causeOf, finish, goesOn, runFrom, runOn, runOf}
+use Rattle.run.specs.Run.{RunOutcome, refusedRun, causeOf, finish, stepsOn, runFrom, runOn, runOf}
 use Rattle.run.specs.Laws.{RunEquation}
 
 -- the cause by what holds at the end
@@ -44,13 +44,13 @@ all-hold false b c e = absurd (false≢true e)
 
 -- a run that goes on, and its next step
 pub record Goes (m : Machine) (b : Bus) (l : Lines) (budget cycles : ℕ) : Type 0 where
-  pub on : goesOn m b l budget cycles ≡ true
+  pub on : stepsOn m b l budget cycles ≡ true
   pub admitted : admissionOf b ≡ Admitted
   pub below : cycles < budget
   pub charged : 1 ≤ cyclesOf (stepOf m b l .answer)
 
-goes : (m : Machine) (b : Bus) (l : Lines) (budget cycles : ℕ) → admissionOf b ≡ Admitted → goesOn m b l budget cycles ≡ true → Goes m b l budget cycles
-unfolding goesOn
+goes : (m : Machine) (b : Bus) (l : Lines) (budget cycles : ℕ) → admissionOf b ≡ Admitted → stepsOn m b l budget cycles ≡ true → Goes m b l budget cycles
+unfolding stepsOn
 goes m b l budget cycles s e =
     let k = all-hold (ltb cycles budget) (m .running .halted) (meetsUnspecified (admittedStep m b l .answer)) e in
     record {
@@ -66,8 +66,8 @@ pub data Rests (m : Machine) (b : Bus) (l : Lines) (budget cycles : ℕ) : Type 
   machine-halted : m .running .halted ≡ true → Rests m b l budget cycles
   form-unspecified : m .running .halted ≡ false → meetsUnspecified (admittedStep m b l .answer) ≡ true → Rests m b l budget cycles
 
-pub rests : (m : Machine) (b : Bus) (l : Lines) (budget cycles : ℕ) → goesOn m b l budget cycles ≡ false → Rests m b l budget cycles
-unfolding goesOn
+pub rests : (m : Machine) (b : Bus) (l : Lines) (budget cycles : ℕ) → stepsOn m b l budget cycles ≡ false → Rests m b l budget cycles
+unfolding stepsOn
 rests m b l budget cycles e = go (ltb cycles budget) (m .running .halted) (meetsUnspecified (admittedStep m b l .answer)) refl refl refl e
   where
     go : (t h u : Bool) → ltb cycles budget ≡ t → m .running .halted ≡ h → meetsUnspecified (admittedStep m b l .answer) ≡ u → (t && (not h && not u)) ≡ false → Rests m b l budget cycles
@@ -76,25 +76,25 @@ rests m b l budget cycles e = go (ltb cycles budget) (m .running .halted) (meets
     go true false true p q r g = form-unspecified q r
     go true false false p q r g = absurd (true≢false g)
 
-none-left : (m : Machine) (b : Bus) (l : Lines) (budget cycles : ℕ) → budget ≤ cycles → goesOn m b l budget cycles ≡ false
-unfolding goesOn
+none-left : (m : Machine) (b : Bus) (l : Lines) (budget cycles : ℕ) → budget ≤ cycles → stepsOn m b l budget cycles ≡ false
+unfolding stepsOn
 none-left m b l budget cycles h = rw (le-ltb cycles budget h)
 
 -- what holds of each end, and before a step where it holds after it, holds of the run
 module _
     (l : Lines) (budget : ℕ) (R : Machine → Bus → ℕ → ℕ → RunOutcome → Type 0)
-    (ends : (m : Machine) (b : Bus) (steps cycles : ℕ) → admissionOf b ≡ Admitted → goesOn m b l budget cycles ≡ false → R m b steps cycles (finish m b l steps cycles))
+    (ends : (m : Machine) (b : Bus) (steps cycles : ℕ) → admissionOf b ≡ Admitted → stepsOn m b l budget cycles ≡ false → R m b steps cycles (finish m b l steps cycles))
     (before : (m : Machine) (b : Bus) (steps cycles : ℕ) (o : RunOutcome) → Goes m b l budget cycles → R (stepOf m b l .machine) (stepOf m b l .bus) (steps + 1) (cycles + cyclesOf (stepOf m b l .answer)) o → R m b steps cycles o) where
   by-count : (n : ℕ) (m : Machine) (b : Bus) (steps cycles : ℕ) → admissionOf b ≡ Admitted → budget ≤ cycles + n → R m b steps cycles (runFrom n m b l budget steps cycles)
   unfolding runFrom
   by-count zero m b steps cycles s h = ends m b steps cycles s (none-left m b l budget cycles (omega arith))
   by-count (suc n) m b steps cycles s h =
-      turn (goesOn m b l budget cycles) refl (λ p. by-count n (stepOf m b l .machine) (stepOf m b l .bus) (steps + 1) (cycles + cyclesOf (stepOf m b l .answer)) (keeps-admission m b l ∙ s) (omega (arith, p)))
+      turn (stepsOn m b l budget cycles) refl (λ p. by-count n (stepOf m b l .machine) (stepOf m b l .bus) (steps + 1) (cycles + cyclesOf (stepOf m b l .answer)) (keeps-admission m b l ∙ s) (omega (arith, p)))
     where
       next : Outcome → RunOutcome
       next o = runFrom n (o .machine) (o .bus) l budget (steps + 1) (cycles + cyclesOf (o .answer))
 
-      turn : (g : Bool) → goesOn m b l budget cycles ≡ g → (1 ≤ cyclesOf (stepOf m b l .answer) → R (stepOf m b l .machine) (stepOf m b l .bus) (steps + 1) (cycles + cyclesOf (stepOf m b l .answer)) (next (stepOf m b l))) → R m b steps cycles (cond g (next (admittedStep m b l)) (finish m b l steps cycles))
+      turn : (g : Bool) → stepsOn m b l budget cycles ≡ g → (1 ≤ cyclesOf (stepOf m b l .answer) → R (stepOf m b l .machine) (stepOf m b l .bus) (steps + 1) (cycles + cyclesOf (stepOf m b l .answer)) (next (stepOf m b l))) → R m b steps cycles (cond g (next (admittedStep m b l)) (finish m b l steps cycles))
       turn true e r =
           let k = goes m b l budget cycles s e in
           subst (λ (o : Outcome). R m b steps cycles (next o)) (step-admitted m b l s) (before m b steps cycles _ k (r (k .charged)))
@@ -113,7 +113,7 @@ module _ (l : Lines) (budget : ℕ) where
       ends
       before
     where
-      ends : (m : Machine) (b : Bus) (steps cycles : ℕ) → admissionOf b ≡ Admitted → goesOn m b l budget cycles ≡ false → (n : ℕ) → budget ≤ cycles + n → finish m b l steps cycles ≡ runFrom n m b l budget steps cycles
+      ends : (m : Machine) (b : Bus) (steps cycles : ℕ) → admissionOf b ≡ Admitted → stepsOn m b l budget cycles ≡ false → (n : ℕ) → budget ≤ cycles + n → finish m b l steps cycles ≡ runFrom n m b l budget steps cycles
       ends m b steps cycles s e zero h = refl
       ends m b steps cycles s e (suc n) h = sym (cond-false _ _ e)
 
@@ -128,7 +128,7 @@ pub run-equation : RunEquation
 unfolding runFrom
 run-equation m b l budget steps cycles s =
     let n : Outcome = stepOf m b l in
-    let g : Bool = goesOn m b l budget cycles in
+    let g : Bool = stepsOn m b l budget cycles in
     run-on l budget m b steps cycles s (suc budget) (omega arith)
     ∙ ap (λ (x : Outcome). cond g (runFrom budget (x .machine) (x .bus) l budget (steps + 1) (cycles + cyclesOf (x .answer))) (finish m b l steps cycles)) (sym (step-admitted m b l s))
     ∙ ap (λ (o : RunOutcome). cond g o (finish m b l steps cycles))

@@ -13,7 +13,7 @@ use Rattle.cpu.specs.Answer.{cyclesOf, meetsUnspecified}
 use Rattle.cpu.specs.Step.{stepOf}
 use Rattle.cpu.specs.Steps.{stepsFrom, lastMachine, lastBus, cyclesOfAll, Unrefused}
 use Rattle.run.specs.declared.Cause.the-variants.{Halted, Unspecified, Budget}
-use Rattle.run.specs.Run.{causeNumber, RunDone, RunOutcome, finish, goesOn, runOn, runOf}
+use Rattle.run.specs.Run.{causeNumber, RunDone, RunOutcome, finish, stepsOn, runOn, runOf}
 
 -- The run by its own rule, with no count.
 abbrev pub RunEquation : Type 0
@@ -21,7 +21,7 @@ RunEquation =
     (m : Machine) (b : Bus) (l : Lines) (budget steps cycles : ℕ) →
     admissionOf b ≡ Admitted →
     runOn m b l budget steps cycles
-    ≡ cond (goesOn m b l budget cycles)
+    ≡ cond (stepsOn m b l budget cycles)
     (runOn (stepOf m b l .machine) (stepOf m b l .bus) l budget (steps + 1) (cycles + cyclesOf (stepOf m b l .answer)))
     (finish m b l steps cycles)
 

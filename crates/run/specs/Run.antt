@@ -67,8 +67,8 @@ finish m b l steps cycles =
     }
 
 -- "Steps are made while the sum is below the budget, the machine is not halted and the next step is not refused by 3."
-unfoldable pub goesOn : Machine → Bus → Lines → ℕ → ℕ → Bool
-goesOn m b l budget cycles =
+unfoldable pub stepsOn : Machine → Bus → Lines → ℕ → ℕ → Bool
+stepsOn m b l budget cycles =
     ltb cycles budget && (not (m .running .halted) && not (meetsUnspecified (admittedStep m b l .answer)))
 
 -- the run from a machine on an admitted bus, with at most this many turns to go
@@ -76,7 +76,7 @@ unfoldable pub runFrom : ℕ → Machine → Bus → Lines → ℕ → ℕ → �
 runFrom zero m b l budget steps cycles = finish m b l steps cycles
 runFrom (suc turns) m b l budget steps cycles =
     let next : Outcome = admittedStep m b l in
-    cond (goesOn m b l budget cycles)
+    cond (stepsOn m b l budget cycles)
     (runFrom turns (next .machine) (next .bus) l budget (steps + 1) (cycles + cyclesOf (next .answer)))
     (finish m b l steps cycles)
 
