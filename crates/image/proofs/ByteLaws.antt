@@ -1,13 +1,13 @@
--- Laws of words in bytes, of sums, and of a run laid over another.
+-- Laws of words in bytes, and of sums.
 use Prim.Native.Nat.{ℕ, zero, suc, _+_, _-_, _*_, _/_, _%_, _<_, _≤_}
-use mathlib.Core.Path.{_≡_, refl, sym, ap, _∙_}
+use mathlib.Core.Path.{_≡_, refl, ap, _∙_}
 use mathlib.Core.List.{List, [], _∷_, _++_}
 use native.Mathlib.Omega.{arith}
 use native.Mathlib.Numerals.{add-one}
 use native.Mathlib.Nat.{le-of-suc-le-suc, not-suc-le-zero}
 use lib.ListN.{length, getD, take, drop, set, length-drop}
-use lib.Seq.{getD-drop, take-suc, take-all, sets, sets-eq, length-sets}
-use Rattle.image.specs.Bytes.{wordAt, wordsOf, bytesOf, overwrite}
+use lib.Seq.{getD-drop, getD-set-other, take-suc, take-all}
+use Rattle.image.specs.Bytes.{wordAt, wordsOf, bytesOf}
 use Rattle.image.specs.Format.{total}
 
 -- the contents of a part of a slice from an index to its end
@@ -19,6 +19,11 @@ unfolding wordAt
 word-drop l n i =
     let e : n + i + 1 ≡ n + (i + 1) = omega arith in
     rw (getD-drop n l i 0, getD-drop n l (i + 1) 0, e)
+
+-- a changed byte leaves the words that it is not in
+pub word-kept : (l : List ℕ) (i b j : ℕ) → j + 2 ≤ i → wordAt (set l i b) j ≡ wordAt l j
+unfolding wordAt
+word-kept l i b j h = rw (getD-set-other l i j b 0 (λ e. omega arith), getD-set-other l i (j + 1) b 0 (λ e. omega arith))
 
 pub words-at : (c : ℕ) (l : List ℕ) (i : ℕ) → i < c → getD (wordsOf c l) i 0 ≡ wordAt l (i * 2)
 words-at zero l i h = absurd (not-suc-le-zero h)
@@ -46,17 +51,3 @@ total-append (x ∷ l) m = omega (arith, total-append l m)
 -- one more word of a sum
 pub total-step : (ws : List ℕ) (i : ℕ) → i < length ws → total (take (i + 1) ws) ≡ total (take i ws) + getD ws i 0
 total-step ws i h = rw (add-one, take-suc ws i 0) (total-append (take i ws) (getD ws i 0 ∷ []) ∙ omega arith)
-
--- a run of stores in two parts
-pub sets-split : (d : List ℕ) (a : ℕ) (xs ys : List ℕ) → sets d a (xs ++ ys) ≡ sets (sets d a xs) (a + length xs) ys
-sets-split d a [] ys = let e : a + 0 ≡ a = omega arith in rw e
-sets-split d a (x ∷ xs) ys =
-    let e : a + suc (length xs) ≡ suc a + length xs = omega arith in
-    rw e (sets-split (set d a x) (suc a) xs ys)
-
-pub overwrite-sets : (d : List ℕ) (a : ℕ) (xs : List ℕ) → a + length xs ≤ length d → overwrite d a xs ≡ sets d a xs
-unfolding overwrite
-overwrite-sets d a xs h = sym (sets-eq xs d a h)
-
-pub overwrite-length : (d : List ℕ) (a : ℕ) (xs : List ℕ) → a + length xs ≤ length d → length (overwrite d a xs) ≡ length d
-overwrite-length d a xs h = ap length (overwrite-sets d a xs h) ∙ length-sets d a xs

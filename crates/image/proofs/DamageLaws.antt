@@ -7,25 +7,25 @@ use mathlib.Core.Logic.{_⊎_, inl, inr, ⊎-elim}
 use native.Mathlib.Omega.{arith}
 use native.Mathlib.Decide.{decLe}
 use lib.ListN.{length, getD, drop, set, length-set, length-drop}
-use lib.Seq.{getD-set-other, getD-drop, drop-set-lt, drop-set-add}
-use borrow.Author.Tests.{eq-eqb, ne-eqb, eqb-true}
+use lib.Seq.{getD-drop, drop-set-lt, drop-set-add}
+use borrow.Author.Tests.{ne-eqb, eqb-true}
 use Rattle.refusal.specs.declared.Refusal.the-variants.{MemoryTooLong, WrongBoard, SumDiffers}
 use Rattle.refusal.specs.Report.{answered}
 use Rattle.refusal.proofs.ReportLaws.{no-answer}
 use Rattle.memory.specs.Memory.{tooLong}
 use Rattle.word.proofs.Choice.{cond-true, cond-false}
-use Rattle.image.specs.declared.parse.Head.{Head}
-use Rattle.image.specs.declared.parse.Head.the-variants.{Board, Malformed}
-use Rattle.image.specs.declared.parse.Part.{Part}
-use Rattle.image.specs.declared.parse.Part.the-variants.{Record as AtRecord, Tail, Offence}
 use Rattle.image.specs.Bytes.{wordAt, wordsOf}
-use Rattle.image.specs.Format.{total, Record, recordAt, recordsSum, checksum}
-use Rattle.image.specs.Read.{headOf, placeOf, recordOf, tailOf, partOf, Body, whole, broken, withRecord, follow, bodyOf}
-use Rattle.image.specs.Load.{refuse, accept, isFor, sumAgrees, sumTested, boardTested, loadOf}
-use Rattle.image.specs.Trip.{InWords, ByteChanged}
-use Rattle.image.proofs.ByteLaws.{words-length}
-use Rattle.image.proofs.ReadLaws.{part-sound, body-law}
+use Rattle.records.specs.Records.{Record}
+use Rattle.image.specs.Format.{recordLimit, addressAt, countAt, recordHeadBytes, recordBytes}
+use Rattle.image.specs.Format.{recordAt, total, recordsSum, checksum, ImageHead, headLength, headSum}
+use Rattle.image.specs.Read.{Opening, headOf, placeOf, recordOf, tailOf, partOf, whole, withRecord}
+use Rattle.image.specs.Read.{follow, bodyOf}
+use Rattle.image.specs.Load.{refuseLoad, acceptLoad, isFor, sumAgrees, sumTested, boardTested, loadWith}
+use Rattle.image.specs.Laws.{GoodFile, InWords, ByteChanged, OwnByteChanged}
+use Rattle.image.proofs.ByteLaws.{word-kept, words-length}
+use Rattle.image.proofs.ReadLaws.{part-sound, body-law, Front, front, front-count}
 use Rattle.image.proofs.LoadLaws.{load-head}
+use Rattle.image.proofs.HeadLaws.{own-head}
 
 -- A sum x with the byte `old` in it, and y with b in its place: as the low or as the high half of a word.
 abbrev Moved : ℕ → ℕ → ℕ → ℕ → Type 0
@@ -56,10 +56,6 @@ moved-differs h old b x y p q d (inl e) f = d (omega (arith, apart 1 (h + x) (h 
 moved-differs h old b x y p q d (inr e) f = d (omega (arith, apart 256 (h + x) (h + y) old b (omega arith) (omega arith) (omega arith) f))
 
 -- What a changed byte leaves: words that it is not in, and the parts that end before it.
-word-kept : (l : List ℕ) (i b j : ℕ) → j + 2 ≤ i → wordAt (set l i b) j ≡ wordAt l j
-unfolding wordAt
-word-kept l i b j h = rw (getD-set-other l i j b 0 (λ e. omega arith), getD-set-other l i (j + 1) b 0 (λ e. omega arith))
-
 words-kept : (c : ℕ) (l : List ℕ) (i b : ℕ) → c * 2 ≤ i → wordsOf c (set l i b) ≡ wordsOf c l
 words-kept zero l i b h = refl
 words-kept (suc c) l i b h =
@@ -67,14 +63,10 @@ words-kept (suc c) l i b h =
     let d = rw e at (drop-set-add 2 l (i - 2) b) in
     rw (word-kept l i b 0 (omega arith), d, words-kept c (drop 2 l) (i - 2) b (omega arith))
 
-part-kept : (len : ℕ) (l : List ℕ) (i b : ℕ) → 6 ≤ i → partOf len (set l i b) ≡ partOf len l
+part-kept : (limit len : ℕ) (l : List ℕ) (i b : ℕ) → recordHeadBytes ≤ i → partOf limit len (set l i b) ≡ partOf limit len l
 unfolding partOf recordOf placeOf tailOf
-part-kept len l i b h =
-    rw (length-set l i b, word-kept l i b 0 (omega arith), word-kept l i b 2 (omega arith), word-kept l i b 4 (omega arith))
-
-head-kept : (file : List ℕ) (i b : ℕ) → 4 ≤ i → headOf (set file i b) ≡ headOf file
-unfolding headOf
-head-kept file i b h = rw (length-set file i b, word-kept file i b 0 (omega arith), word-kept file i b 2 (omega arith))
+part-kept limit len l i b h =
+    rw (length-set l i b, word-kept l i b 0 (omega arith), word-kept l i b addressAt (omega arith), word-kept l i b countAt (omega arith))
 
 -- A changed byte within words moves their sum.
 words-moved : (c : ℕ) (l : List ℕ) (i b : ℕ) → i < c * 2 → c * 2 ≤ length l → Moved (getD l i 0) b (total (wordsOf c l)) (total (wordsOf c (set l i b)))
@@ -88,79 +80,53 @@ words-moved (suc c) (x ∷ y ∷ l) (suc (suc i)) b h k =
     let w = moved-more (x * 256 + y) 0 (getD l i 0) b (total (wordsOf c l)) (total (wordsOf c (set l i b))) (words-moved c l i b (omega arith) (omega arith)) in
     ⊎-elim (λ e. inl (omega arith)) (λ e. inr (omega arith)) w
 
--- A body with a record has it at its front.
-record Front (len : ℕ) (l : List ℕ) (r : Record) (rs : List Record) (s : ℕ) : Type 0 where
-  address : ℕ
-  count : ℕ
-  part : partOf len l ≡ AtRecord address count
-  is : recordAt address count l ≡ r
-  later : bodyOf len (drop (6 + count * 2) l) ≡ whole rs s
-
-module _ (len : ℕ) (l : List ℕ) (r : Record) (rs : List Record) (s : ℕ) where
-  front-record : (a c : ℕ) → partOf len l ≡ AtRecord a c → (b : Body) → bodyOf len (drop (6 + c * 2) l) ≡ b
-      → withRecord (recordAt a c l) b ≡ whole (r ∷ rs) s → Front len l r rs s
-  front-record a c f (whole qs t) e g =
-      let er : recordAt a c l ≡ r = cc in
-      let ew : whole qs t ≡ whole rs s = cc in
-      record { address = a; count = c; part = f; is = er; later = e ∙ ew }
-  front-record a c f (broken q) e g = let z : _≡_ {A = ℕ} 0 1 = cc in absurd (omega arith)
-
-  front-part : (p : Part) → partOf len l ≡ p → follow (bodyOf len) l p ≡ whole (r ∷ rs) s → Front len l r rs s
-  front-part (AtRecord a c) f g = front-record a c f (bodyOf len (drop (6 + c * 2) l)) refl g
-  front-part (Tail t) f g = let z : _≡_ {A = ℕ} 0 1 = cc in absurd (omega arith)
-  front-part (Offence q) f g = let z : _≡_ {A = ℕ} 0 1 = cc in absurd (omega arith)
-
-  front : bodyOf len l ≡ whole (r ∷ rs) s → Front len l r rs s
-  front e = front-part (partOf len l) refl (sym (body-law len l) ∙ e)
-
 -- What a body with a changed byte reads: records of the same shape, whose sum has moved.
-record Damaged (len : ℕ) (l : List ℕ) (rs : List Record) (s i b : ℕ) : Type 0 where
+record Damaged (limit len : ℕ) (l : List ℕ) (rs : List Record) (s i b : ℕ) : Type 0 where
   records : List Record
-  reads : bodyOf len (set l i b) ≡ whole records s
+  reads : bodyOf limit len (set l i b) ≡ whole records s
   moved : Moved (getD l i 0) b (recordsSum rs) (recordsSum records)
 
-in-words-from : (rs : List Record) (at i : ℕ) → InWords rs at i → at + 6 ≤ i
+in-words-from : (rs : List Record) (at i : ℕ) → InWords rs at i → at + recordHeadBytes ≤ i
 in-words-from [] at i p = absurd p
 in-words-from (r ∷ rs) at i (inl p) = p .0
-in-words-from (r ∷ rs) at i (inr p) = omega (arith, in-words-from rs (at + (6 + length (r .words) * 2)) i p)
+in-words-from (r ∷ rs) at i (inr p) = omega (arith, in-words-from rs (at + recordBytes (length (r .words))) i p)
 
-module _ (len : ℕ) (l : List ℕ) (r : Record) (rs : List Record) (s j b : ℕ) (f : Front len l r rs s) where
-  -- the words of the record at the front
-  front-count : length (r .words) ≡ f .count
-  front-count = ap (λ (q : Record). length (q .words)) (sym (f .is)) ∙ words-length (f .count) (drop 6 l)
-
+module _ (limit len : ℕ) (l : List ℕ) (r : Record) (rs : List Record) (s j b : ℕ) (f : Front limit len l r rs s) where
   -- the front's own part is read as before
-  front-kept : 6 ≤ j → bodyOf len (set l j b) ≡ withRecord (recordAt (f .address) (f .count) (set l j b)) (bodyOf len (drop (6 + f .count * 2) (set l j b)))
-  front-kept h = body-law len (set l j b) ∙ ap (follow (bodyOf len) (set l j b)) (part-kept len l j b h ∙ f .part)
+  front-kept : recordHeadBytes ≤ j → bodyOf limit len (set l j b) ≡ withRecord (recordAt (f .address) (f .count) (set l j b)) (bodyOf limit len (drop (recordBytes (f .count)) (set l j b)))
+  front-kept h = body-law limit len (set l j b) ∙ ap (follow (bodyOf limit len) (set l j b)) (part-kept limit len l j b h ∙ f .part)
 
-  damaged-here : 6 ≤ j → j < 6 + f .count * 2 → Damaged len l (r ∷ rs) s j b
+  damaged-here : recordHeadBytes ≤ j → j < recordBytes (f .count) → Damaged limit len l (r ∷ rs) s j b
   damaged-here h k =
       let c = f .count in
-      let o = part-sound len l (f .address) c (f .part) .complete in
-      let e : 6 + (j - 6) ≡ j = omega arith in
-      let d = rw e at (drop-set-add 6 l (j - 6) b) in
-      let g = rw e at (getD-drop 6 l (j - 6) 0) in
-      let w = words-moved c (drop 6 l) (j - 6) b (omega arith) (omega (arith, length-drop 6 l)) in
-      let n = words-length c (drop 6 l) in
-      let n′ = words-length c (set (drop 6 l) (j - 6) b) in
+      let o = part-sound limit len l (f .address) c (f .part) .complete in
+      let i = j - recordHeadBytes in
+      let e : recordHeadBytes + i ≡ j = omega arith in
+      let d = rw e at (drop-set-add recordHeadBytes l i b) in
+      let g = rw e at (getD-drop recordHeadBytes l i 0) in
+      let w = words-moved c (drop recordHeadBytes l) i b (omega arith) (omega (arith, length-drop recordHeadBytes l)) in
+      let n = words-length c (drop recordHeadBytes l) in
+      let n′ = words-length c (set (drop recordHeadBytes l) i b) in
       let q = recordAt (f .address) c (set l j b) in
       record {
         records = q ∷ rs;
-        reads = front-kept h ∙ rw (drop-set-lt (6 + c * 2) l j b k, f .later);
+        reads = front-kept h ∙ rw (drop-set-lt (recordBytes c) l j b k, f .later);
         moved =
             rw (← f .is, d, ← g) (
             ⊎-elim (λ x. inl (omega arith)) (λ x. inr (omega arith)) w);
       }
 
-  damaged-later : 6 + f .count * 2 ≤ j → Damaged len (drop (6 + f .count * 2) l) rs s (j - (6 + f .count * 2)) b → Damaged len l (r ∷ rs) s j b
+  damaged-later : recordBytes (f .count) ≤ j → Damaged limit len (drop (recordBytes (f .count)) l) rs s (j - recordBytes (f .count)) b → Damaged limit len l (r ∷ rs) s j b
   damaged-later h k =
       let c = f .count in
-      let e : 6 + c * 2 + (j - (6 + c * 2)) ≡ j = omega arith in
-      let d = rw e at (drop-set-add (6 + c * 2) l (j - (6 + c * 2)) b) in
-      let g = rw e at (getD-drop (6 + c * 2) l (j - (6 + c * 2)) 0) in
-      let e6 : 6 + (j - 6) ≡ j = omega arith in
-      let d6 = rw e6 at (drop-set-add 6 l (j - 6) b) in
-      let u : recordAt (f .address) c (set l j b) ≡ r = rw (d6, words-kept c (drop 6 l) (j - 6) b (omega arith)) (f .is) in
+      let i = j - recordBytes c in
+      let e : recordBytes c + i ≡ j = omega arith in
+      let d = rw e at (drop-set-add (recordBytes c) l i b) in
+      let g = rw e at (getD-drop (recordBytes c) l i 0) in
+      let k₁ = j - recordHeadBytes in
+      let e₁ : recordHeadBytes + k₁ ≡ j = omega arith in
+      let d₁ = rw e₁ at (drop-set-add recordHeadBytes l k₁ b) in
+      let u : recordAt (f .address) c (set l j b) ≡ r = rw (d₁, words-kept c (drop recordHeadBytes l) k₁ b (omega arith)) (f .is) in
       record {
         records = r ∷ k .records;
         reads = front-kept (omega arith) ∙ rw (u, d, k .reads);
@@ -169,64 +135,69 @@ module _ (len : ℕ) (l : List ℕ) (r : Record) (rs : List Record) (s j b : ℕ
             ⊎-elim (λ x. inl (omega arith)) (λ x. inr (omega arith)) (k .moved));
       }
 
-damaged : (len : ℕ) (l : List ℕ) (rs : List Record) (s at j b : ℕ) → bodyOf len l ≡ whole rs s → InWords rs at (at + j) → Damaged len l rs s j b
-damaged len l [] s at j b e p = absurd p
-damaged len l (r ∷ rs) s at j b e (inl p) =
-    let f = front len l r rs s e in
-    let c = front-count len l r rs s j b f in
-    damaged-here len l r rs s j b f (omega arith) (omega arith)
-damaged len l (r ∷ rs) s at j b e (inr p) =
-    let f = front len l r rs s e in
-    let c = front-count len l r rs s j b f in
-    let n = 6 + length (r .words) * 2 in
+damaged : (limit len : ℕ) (l : List ℕ) (rs : List Record) (s at j b : ℕ) → bodyOf limit len l ≡ whole rs s → InWords rs at (at + j) → Damaged limit len l rs s j b
+damaged limit len l [] s at j b e p = absurd p
+damaged limit len l (r ∷ rs) s at j b e (inl p) =
+    let f = front limit len l r rs s e in
+    let c = front-count limit len l r rs s f in
+    damaged-here limit len l r rs s j b f (omega arith) (omega arith)
+damaged limit len l (r ∷ rs) s at j b e (inr p) =
+    let f = front limit len l r rs s e in
+    let c = front-count limit len l r rs s f in
+    let n = recordBytes (length (r .words)) in
     let h = in-words-from rs (at + n) (at + j) p in
     let i : at + n + (j - n) ≡ at + j = omega arith in
-    let m = damaged len (drop (6 + f .count * 2) l) rs s (at + n) (j - n) b (f .later) (rw i p) in
-    damaged-later len l r rs s j b f (omega arith) (rw c at m)
+    let m = damaged limit len (drop (recordBytes (f .count)) l) rs s (at + n) (j - n) b (f .later) (rw i p) in
+    damaged-later limit len l r rs s j b f (omega arith) (rw c at m)
 
 -- A file that is loaded passed each test.
-record Opened (board : ℕ) (m file : List ℕ) (rs : List Record) (stated : ℕ) : Type 0 where
+record Passed (head : ImageHead) (board : ℕ) (m : List ℕ) (rs : List Record) (stated : ℕ) : Type 0 where
   fits : tooLong m ≡ false
-  head : headOf file ≡ Board board
-  sum : sumAgrees board rs stated ≡ true
+  here : isFor head board ≡ true
+  sum : sumAgrees (headSum head) rs stated ≡ true
 
-module _ (board : ℕ) (m file : List ℕ) (rs : List Record) (stated k : ℕ) (e : bodyOf (length m) (drop 4 file) ≡ whole rs stated) where
-  sum-opened : (named : ℕ) (t : Bool) → sumAgrees named rs stated ≡ t → cond t (accept m rs) (refuse m SumDiffers) .answer ≡ answered k → sumAgrees named rs stated ≡ true
-  sum-opened named true f g = f
-  sum-opened named false f g = no-answer g
+module _ (opening : List ℕ → Opening) (limit board : ℕ) (m file : List ℕ) (head : ImageHead) (rs : List Record)
+    (k : GoodFile opening limit board m file head rs) where
+  sum-passed : (t : Bool) → sumAgrees (headSum head) rs (k .stated) ≡ t
+      → cond t (acceptLoad m rs) (refuseLoad m SumDiffers) .answer ≡ answered (length rs) → sumAgrees (headSum head) rs (k .stated) ≡ true
+  sum-passed true f g = f
+  sum-passed false f g = no-answer g
 
-  board-opened : (named : ℕ) (t : Bool) → isFor named board ≡ t → tooLong m ≡ false → headOf file ≡ Board named
-      → cond t (sumTested m named (bodyOf (length m) (drop 4 file))) (refuse m WrongBoard) .answer ≡ answered k → Opened board m file rs stated
-  board-opened named true f a h g =
-      let n : named ≡ board = eqb-true named board f in
-      let s = sum-opened named (sumAgrees named rs stated) refl (rw e at g) in
-      record { fits = a; head = h ∙ ap Board n; sum = rw n at s }
-  board-opened named false f a h g = no-answer g
+  board-passed : (t : Bool) → isFor head board ≡ t → tooLong m ≡ false
+      → cond t (sumTested m (headSum head) (bodyOf limit (length m) (drop (headLength head) file))) (refuseLoad m WrongBoard) .answer ≡ answered (length rs)
+      → Passed head board m rs (k .stated)
+  board-passed true f a g =
+      record { fits = a; here = f; sum = sum-passed (sumAgrees (headSum head) rs (k .stated)) refl (rw (k .reads) at g) }
+  board-passed false f a g = no-answer g
 
-  head-opened : (h : Head) → tooLong m ≡ false → headOf file ≡ h → boardTested m board file h .answer ≡ answered k → Opened board m file rs stated
-  head-opened (Board named) a f g = board-opened named (isFor named board) refl a f g
-  head-opened Malformed a f g = no-answer g
+  length-passed : (t : Bool) → tooLong m ≡ t
+      → cond t (refuseLoad m MemoryTooLong) (boardTested limit board m file (opening file)) .answer ≡ answered (length rs)
+      → Passed head board m rs (k .stated)
+  length-passed true a g = no-answer g
+  length-passed false a g = board-passed (isFor head board) refl a (rw (k .opens) at g)
 
-  length-opened : (t : Bool) → tooLong m ≡ t → cond t (refuse m MemoryTooLong) (boardTested m board file (headOf file)) .answer ≡ answered k → Opened board m file rs stated
-  length-opened true a g = no-answer g
-  length-opened false a g = head-opened (headOf file) a refl g
-
-  opened : loadOf board m file .answer ≡ answered k → Opened board m file rs stated
-  unfolding loadOf
-  opened g = length-opened (tooLong m) refl g
+  passed : Passed head board m rs (k .stated)
+  unfolding loadWith
+  passed = length-passed (tooLong m) refl (k .loads)
 
 pub byte-changed : ByteChanged
 unfolding checksum
-byte-changed board m file rs k i b p o q d =
-    let u = opened board m file rs (k .stated) (length rs) (k .reads) (k .loads) in
-    let h = in-words-from rs 4 i p in
-    let e : 4 + (i - 4) ≡ i = omega arith in
-    let w = damaged (length m) (drop 4 file) rs (k .stated) 4 (i - 4) b (k .reads) (rw e p) in
-    let g : getD (drop 4 file) (i - 4) 0 ≡ getD file i 0 = rw e at (getD-drop 4 file (i - 4) 0) in
-    let c : drop 4 (set file i b) ≡ set (drop 4 file) (i - 4) b = rw e at (drop-set-add 4 file (i - 4) b) in
+byte-changed opening alone limit board m file head rs k i b p o q d =
+    let u = passed opening limit board m file head rs k in
+    let size = headLength head in
+    let h = in-words-from rs size i p in
+    let j = i - size in
+    let e : size + j ≡ i = omega arith in
+    let w = damaged limit (length m) (drop size file) rs (k .stated) size j b (k .reads) (rw e p) in
+    let g : getD (drop size file) j 0 ≡ getD file i 0 = rw e at (getD-drop size file j 0) in
+    let c : drop size (set file i b) ≡ set (drop size file) j b = rw e at (drop-set-add size file j b) in
     let v = rw g at (w .moved) in
-    let s = eqb-true (checksum board rs) (k .stated) (u .sum) in
-    load-head board m (set file i b) (u .fits) (head-kept file i b (omega arith) ∙ u .head)
-    ∙ cond-true _ _ (eq-eqb board board refl)
-    ∙ rw (c, w .reads) (cond-false _ _ (ne-eqb (checksum board (w .records)) (k .stated) (λ z.
-    moved-differs board (getD file i 0) b (recordsSum rs) (recordsSum (w .records)) o q d v (z ∙ sym s))))
+    let s = eqb-true (checksum (headSum head) rs) (k .stated) (u .sum) in
+    load-head opening limit board m (set file i b) (u .fits) (alone file head (k .opens) i b (omega arith))
+    ∙ cond-true _ _ (u .here)
+    ∙ rw (c, w .reads) (cond-false _ _ (ne-eqb (checksum (headSum head) (w .records)) (k .stated) (λ z.
+    moved-differs (headSum head) (getD file i 0) b (recordsSum rs) (recordsSum (w .records)) o q d v (z ∙ sym s))))
+
+-- .. of a file that document 01's own loader takes
+pub own-byte-changed : OwnByteChanged
+own-byte-changed = byte-changed headOf (own-head .alone) recordLimit

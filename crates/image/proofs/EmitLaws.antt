@@ -1,25 +1,33 @@
 -- Laws of cutting a region into records, and of the writer's loops.
-use Prim.Native.Nat.{ℕ, zero, suc, pred, min, _+_, _-_, _*_, _%_, _<_, _≤_}
+use Prim.Native.Nat.{ℕ, zero, suc, min, _+_, _-_, _*_, _%_, _<_, _≤_}
 use mathlib.Core.Path.{_≡_, refl, sym, ap, _∙_}
-use mathlib.Core.Bool.{Bool, true, false, cond}
+use mathlib.Core.Bool.{true, false}
 use mathlib.Core.List.{List, [], _∷_, _++_, append-assoc, append-nil}
 use native.Mathlib.Omega.{arith}
 use native.Mathlib.Numerals.{add-one}
-use lib.Dec.{eqb}
+use lib.Dec.{leb, lit<}
 use lib.ListN.{length, getD, take, drop, length-append, length-take, length-drop}
 use lib.Seq.{take-suc, take-length, drop-drop, sets, length-sets}
-use borrow.Author.Tests.{eq-eqb, ne-eqb, eqb-true, eqb-false, lt-ltb, le-ltb}
+use borrow.Author.Tests.{lt-ltb, le-ltb}
 use Rattle.refusal.specs.declared.Refusal.the-variants.{MemoryTooLong, FirstAboveLast, PastMemory, ImageRoomTooSmall}
 use Rattle.refusal.proofs.ReportLaws.{no-answer, same-answer, same-refusal}
 use Rattle.memory.specs.Memory.{tooLong}
 use Rattle.word.specs.Word.{wrapAdd}
 use Rattle.word.proofs.Choice.{cond-true, cond-false}
 use Rattle.image.specs.declared.WriteAnswer.the-variants.{Refused, Written}
-use Rattle.image.specs.Bytes.{bytesOf, overwrite}
-use Rattle.image.specs.Format.{recordLimit, idMark, okMark, Record, recordOver, recordSum, recordsSum, checksum, recordWords, recordsWords, headWords, tailWords, imageOf}
+use Rattle.records.specs.Records.{Record, recordOver, isWithin, overwrite}
+use Rattle.records.specs.Cut.{spanOf, cutOf, recordCount}
+use Rattle.records.proofs.OverLaws.{sets-split, overwrite-sets}
+use Rattle.records.proofs.RegionLaws.{cut-none, cut-some, cut-holds, cut-laws}
+use Rattle.image.specs.Bytes.{bytesOf}
+use Rattle.image.specs.Format.{recordLimit, idMark, okMark, boardAt, headBytes, addressAt, countAt, recordHeadBytes, sumAt}
+use Rattle.image.specs.Format.{tailBytes, recordBytes, recordSum, recordsSum, checksum, idHead, headWords, headSum}
+use Rattle.image.specs.Format.{recordWords, recordsWords, tailWords, imageOf}
 use Rattle.image.specs.Answer.{WriteAnswersApart}
-use Rattle.image.specs.Write.{cutFrom, cutOf, recordCount, imageLength, refuseRoom, writing, regionImage, written, writeOf}
-use Rattle.image.proofs.ByteLaws.{bytes-length, bytes-append, sets-split, overwrite-sets}
+use Rattle.image.specs.Write.{imageLength, refuseWrite, writing, regionImage, writeWith, writeOf, wrote}
+use Rattle.image.specs.inner.Emit.{RecordsPut}
+use Rattle.image.proofs.ByteLaws.{bytes-length, bytes-append}
+use Rattle.image.proofs.LoadLaws.{one-number}
 use Rattle.image.proofs.PassLaws.{mod-left, mod-right}
 
 pub write-answers-apart : WriteAnswersApart
@@ -64,14 +72,15 @@ putting-end {d₀} {at} {ws} {d} {i} k h =
     k .laid ∙ rw (e, take-length)
 
 -- a record's mark, address and count, and then its words
-pub record-put : (d : List ℕ) (at x y z : ℕ) (ws : List ℕ) {d1 d2 d3 d4 : List ℕ} → d1 ≡ sets d at (bytesOf (x ∷ [])) → d2 ≡ sets d1 (at + 2) (bytesOf (y ∷ []))
-    → d3 ≡ sets d2 (at + 4) (bytesOf (z ∷ [])) → d4 ≡ sets d3 (at + 6) (bytesOf ws) → d4 ≡ sets d at (bytesOf (x ∷ y ∷ z ∷ ws))
+pub record-put : (d : List ℕ) (at x y z : ℕ) (ws : List ℕ) {d1 d2 d3 d4 : List ℕ} → d1 ≡ sets d at (bytesOf (x ∷ []))
+    → d2 ≡ sets d1 (at + addressAt) (bytesOf (y ∷ [])) → d3 ≡ sets d2 (at + countAt) (bytesOf (z ∷ []))
+    → d4 ≡ sets d3 (at + recordHeadBytes) (bytesOf ws) → d4 ≡ sets d at (bytesOf (x ∷ y ∷ z ∷ ws))
 record-put d at x y z ws {d1} {d2} {d3} e1 e2 e3 e4 =
-    let f : at + 2 + 2 ≡ at + 4 = omega arith in
-    let g : at + 4 + 2 ≡ at + 6 = omega arith in
+    let f : at + addressAt + 2 ≡ at + countAt = omega arith in
+    let g : at + countAt + 2 ≡ at + recordHeadBytes = omega arith in
     sym (put-on d at x (y ∷ z ∷ ws)
-    ∙ rw (← e1) (put-on d1 (at + 2) y (z ∷ ws)
-    ∙ rw (← e2, f) (put-on d2 (at + 4) z ws
+    ∙ rw (← e1) (put-on d1 (at + addressAt) y (z ∷ ws)
+    ∙ rw (← e2, f) (put-on d2 (at + countAt) z ws
     ∙ rw (← e3, g) (sym e4))))
 
 take-of-take : (n : ℕ) (l : List ℕ) → take (length (take n l)) l ≡ take n l
@@ -92,43 +101,28 @@ sums-append : (rs qs : List Record) → recordsSum (rs ++ qs) ≡ recordsSum rs 
 sums-append [] qs = omega arith
 sums-append (r ∷ rs) qs = omega (arith, sums-append rs qs)
 
--- Cutting: nothing is left, or a record and then the rest.
-cut-none : (n limit a : ℕ) (ws : List ℕ) → length ws ≡ 0 → cutFrom n limit a ws ≡ []
-cut-none zero limit a ws h = refl
-cut-none (suc n) limit a ws h = cond-true _ _ (eq-eqb _ _ h)
-
-cut-some : (n limit a : ℕ) (ws : List ℕ) → 0 < n → 0 < length ws
-    → cutFrom n limit a ws ≡ recordOver a (take limit ws) ∷ cutFrom (pred n) limit (a + length (take limit ws)) (drop limit ws)
-cut-some zero limit a ws l h = absurd (omega arith)
-cut-some (suc n) limit a ws l h = cond-false _ _ (ne-eqb (length ws) 0 (λ e. omega arith))
+-- the limit is no 0, so that each record takes a word or more
+some-words : 0 < recordLimit
+some-words = lit< tt
 
 -- each record has three words before its own
-pub cut-length : (n a : ℕ) (ws : List ℕ) → length ws ≤ n → length (recordsWords (cutFrom n recordLimit a ws)) ≡ recordCount (length ws) * 3 + length ws
-cut-length zero a ws h = omega arith
-cut-length (suc n) a ws h = go (eqb (length ws) 0) refl (cut-length n (a + length (take recordLimit ws)) (drop recordLimit ws))
-  where
-    cs : List ℕ
-    cs = take recordLimit ws
+cut-words : (limit : ℕ) → 0 < limit → (a : ℕ) (ws : List ℕ) → length (recordsWords (cutOf limit a ws)) ≡ length (cutOf limit a ws) * 3 + length ws
+cut-words limit p =
+    cut-holds limit p (λ a ws rs. length (recordsWords rs) ≡ length rs * 3 + length ws) (λ a ws h. omega arith) (λ a ws rs h ih.
+    let lc = length-take limit ws in
+    let ld = length-drop limit ws in
+    omega (arith, length-append (take limit ws) (recordsWords rs)))
 
-    rs : List Record
-    rs = cutFrom n recordLimit (a + length cs) (drop recordLimit ws)
+pub words-of-cut : (first : ℕ) (region : List ℕ)
+    → length (recordsWords (cutOf recordLimit first region)) ≡ recordCount recordLimit (length region) * 3 + length region
+words-of-cut first region =
+    cut-words recordLimit some-words first region
+    ∙ ap (λ (n : ℕ). n * 3 + length region) (cut-laws .count recordLimit first region some-words)
 
-    go : (t : Bool) → eqb (length ws) 0 ≡ t
-        → (length (drop recordLimit ws) ≤ n → length (recordsWords rs) ≡ recordCount (length (drop recordLimit ws)) * 3 + length (drop recordLimit ws))
-        → length (recordsWords (cond t [] (recordOver a cs ∷ rs))) ≡ recordCount (length ws) * 3 + length ws
-    go true e ih = omega (arith, eqb-true (length ws) 0 e)
-    go false e ih =
-        let ne = eqb-false (length ws) 0 e in
-        let lc = length-take recordLimit ws in
-        let ld = length-drop recordLimit ws in
-        let la = length-append cs (recordsWords rs) in
-        let li = ih (omega arith) in
-        omega arith
-
--- words put behind those that stand from byte 4 on
-laid-more : (d₀ n w : List ℕ) {d d′ : List ℕ} {at : ℕ} → d ≡ sets d₀ 4 (bytesOf n) → at ≡ 4 + length n * 2 → d′ ≡ sets d at (bytesOf w)
-    → d′ ≡ sets d₀ 4 (bytesOf (n ++ w))
-laid-more d₀ n w e f g = rw (g, e, f) (sym (put-more d₀ 4 n w))
+-- words put behind those that stand behind the head
+laid-more : (d₀ n w : List ℕ) {d d′ : List ℕ} {at : ℕ} → d ≡ sets d₀ headBytes (bytesOf n) → at ≡ headBytes + length n * 2 → d′ ≡ sets d at (bytesOf w)
+    → d′ ≡ sets d₀ headBytes (bytesOf (n ++ w))
+laid-more d₀ n w e f g = rw (g, e, f) (sym (put-more d₀ headBytes n w))
 
 sums-more : (x y : ℕ) {s t r : ℕ} → s ≡ x % 65536 → t ≡ y % 65536 → r ≡ wrapAdd s t → r ≡ (x + y) % 65536
 unfolding wrapAdd
@@ -137,25 +131,21 @@ sums-more x y e f g = rw (g, e, f) (mod-left x (y % 65536) ∙ mod-right x y)
 -- The writer's loop: the records of the region's words before start stand in the room.
 pub record Emitting (room₀ : List ℕ) (first : ℕ) (region room : List ℕ) (at start sum : ℕ) : Type 0 where
   pub done : List Record
-  pub fuel : ℕ
   pub within : start ≤ length region
-  pub enough : length region - start ≤ fuel
-  pub all : done ++ cutFrom fuel recordLimit (first + start) (drop start region) ≡ cutOf recordLimit first region
-  pub fits : 8 + length (recordsWords (cutOf recordLimit first region)) * 2 ≤ length room₀
-  pub place : at ≡ 4 + length (recordsWords done) * 2
-  pub laid : room ≡ sets room₀ 4 (bytesOf (recordsWords done))
+  pub all : done ++ cutOf recordLimit (first + start) (drop start region) ≡ cutOf recordLimit first region
+  pub fits : headBytes + tailBytes + length (recordsWords (cutOf recordLimit first region)) * 2 ≤ length room₀
+  pub place : at ≡ headBytes + length (recordsWords done) * 2
+  pub laid : room ≡ sets room₀ headBytes (bytesOf (recordsWords done))
   pub sums : sum ≡ recordsSum done % 65536
 
-pub emitting : (room : List ℕ) (first : ℕ) (region : List ℕ) → imageLength (length region) ≤ length room → Emitting room first region room 4 0 0
-unfolding cutOf
+pub emitting : (room : List ℕ) (first : ℕ) (region : List ℕ) → imageLength headBytes recordLimit (length region) ≤ length room
+    → Emitting room first region room headBytes 0 0
 emitting room first region h =
     let z : first + 0 ≡ first = omega arith in
-    let l = cut-length (length region) first region (omega arith) in
+    let l = words-of-cut first region in
     record {
       done = [];
-      fuel = length region;
       within = omega arith;
-      enough = omega arith;
       all = rw z;
       fits = omega arith;
       place = refl;
@@ -164,7 +154,7 @@ emitting room first region h =
     }
 
 pub emitting-length : {room₀ : List ℕ} {first : ℕ} {region room : List ℕ} {at start sum : ℕ} → Emitting room₀ first region room at start sum → length room ≡ length room₀
-emitting-length {room₀} k = ap length (k .laid) ∙ length-sets room₀ 4 (bytesOf (recordsWords (k .done)))
+emitting-length {room₀} k = ap length (k .laid) ∙ length-sets room₀ headBytes (bytesOf (recordsWords (k .done)))
 
 module _ {room₀ : List ℕ} {first : ℕ} {region room : List ℕ} {at start sum : ℕ} (k : Emitting room₀ first region room at start sum) where
   left : List ℕ
@@ -174,15 +164,14 @@ module _ {room₀ : List ℕ} {first : ℕ} {region room : List ℕ} {at start s
   next = recordOver (first + start) (take recordLimit left)
 
   later : List Record
-  later = cutFrom (pred (k .fuel)) recordLimit (first + start + length (take recordLimit left)) (drop recordLimit left)
+  later = cutOf recordLimit (first + start + length (take recordLimit left)) (drop recordLimit left)
 
   module _ (h : start < length region) where
     cut-next : cutOf recordLimit first region ≡ k .done ++ (next ∷ later)
     unfolding left next later
     cut-next =
-        let ld = length-drop start region in
-        let e = k .enough in
-        sym (k .all) ∙ ap (λ (l : List Record). k .done ++ l) (cut-some (k .fuel) recordLimit (first + start) (drop start region) (omega arith) (omega arith))
+        sym (k .all)
+        ∙ ap (λ (l : List Record). k .done ++ l) (cut-some recordLimit some-words (first + start) (drop start region) (omega (arith, length-drop start region)))
 
     next-length : length (next .words) ≡ min recordLimit (length region - start)
     unfolding next left
@@ -203,7 +192,7 @@ module _ {room₀ : List ℕ} {first : ℕ} {region room : List ℕ} {at start s
       pub emitting-words : length (take (end - start) (drop start region)) ≡ min recordLimit (length region - start)
       emitting-words = ap length next-words ∙ next-length
 
-      pub emitting-fits : {n : ℕ} → n ≡ min recordLimit (length region - start) → at + (6 + n * 2) ≤ length room
+      pub emitting-fits : {n : ℕ} → n ≡ min recordLimit (length region - start) → at + recordBytes n ≤ length room
       emitting-fits {n} f =
           let p = k .place in
           let g = rw (cut-next, records-append (k .done) (next ∷ later)) at (k .fits) in
@@ -218,7 +207,7 @@ module _ {room₀ : List ℕ} {first : ℕ} {region room : List ℕ} {at start s
       pub emitting-on : {room′ : List ℕ} {t sum′ : ℕ}
           → room′ ≡ sets room at (bytesOf (recordWords (recordOver (first + start) (take (end - start) (drop start region)))))
           → t ≡ recordSum (recordOver (first + start) (take (end - start) (drop start region))) % 65536 → sum′ ≡ wrapAdd sum t
-          → Emitting room₀ first region room′ (at + (6 + (end - start) * 2)) end sum′
+          → Emitting room₀ first region room′ (at + recordBytes (end - start)) end sum′
       unfolding next later
       emitting-on {room′} {t} {sum′} p q s =
           let n = recordsWords (k .done) in
@@ -231,13 +220,11 @@ module _ {room₀ : List ℕ} {first : ℕ} {region room : List ℕ} {at start s
           let v : t ≡ recordSum next % 65536 = rw next-words at q in
           record {
             done = k .done ++ (next ∷ []);
-            fuel = pred (k .fuel);
-            within = omega arith;
-            enough = omega (arith, k .enough, next-length);
+            within = omega (arith, next-length);
             all = rw (append-assoc (k .done) (next ∷ []), f, next-left) (sym cut-next);
             fits = k .fits;
             place = rw a (omega arith);
-            laid = laid-more room₀ n w (k .laid) (k .place) (rw next-words at p) ∙ ap (λ (l : List ℕ). sets room₀ 4 (bytesOf l)) (sym a);
+            laid = laid-more room₀ n w (k .laid) (k .place) (rw next-words at p) ∙ ap (λ (l : List ℕ). sets room₀ headBytes (bytesOf l)) (sym a);
             sums =
                 sums-more (recordsSum (k .done)) (recordSum next) (k .sums) v s
                 ∙ ap (λ (x : ℕ). x % 65536) (omega (arith, sums-append (k .done) (next ∷ [])));
@@ -245,75 +232,82 @@ module _ {room₀ : List ℕ} {first : ℕ} {region room : List ℕ} {at start s
 
   -- nothing is left
   pub emitting-end : length region ≤ start
-      → (sum ≡ recordsSum (cutOf recordLimit first region) % 65536) × (room ≡ sets room₀ 4 (bytesOf (recordsWords (cutOf recordLimit first region))))
+      → RecordsPut room₀ (cutOf recordLimit first region) room sum
   emitting-end h =
-      let n = cut-none (k .fuel) recordLimit (first + start) (drop start region) (omega (arith, length-drop start region)) in
+      let n = cut-none recordLimit some-words (first + start) (drop start region) (omega (arith, length-drop start region)) in
       let e : cutOf recordLimit first region ≡ k .done = sym (k .all) ∙ ap (λ (l : List Record). k .done ++ l) n ∙ append-nil (k .done) in
-      rw e (k .sums, k .laid)
-
-pub words-of-cut : (first : ℕ) (region : List ℕ) → length (recordsWords (cutOf recordLimit first region)) ≡ recordCount (length region) * 3 + length region
-unfolding cutOf
-words-of-cut first region = cut-length (length region) first region (omega arith)
+      rw e (record { sum = k .sums; room = k .laid })
 
 -- The whole file.
 module _ (board first : ℕ) (region : List ℕ) where
-  pub image-length : length (imageOf board (cutOf recordLimit first region)) ≡ imageLength (length region)
+  abbrev cut : List Record
+  cut = cutOf recordLimit first region
+
+  abbrev file : List ℕ
+  file = imageOf (idHead board) (cutOf recordLimit first region)
+
+  pub image-length : length file ≡ imageLength headBytes recordLimit (length region)
   unfolding imageOf
   image-length =
-      let ws = recordsWords (cutOf recordLimit first region) in
-      let s = checksum board (cutOf recordLimit first region) in
-      let lb = bytes-length (headWords board ++ (ws ++ tailWords s)) in
+      let ws = recordsWords cut in
+      let s = checksum (headSum (idHead board)) cut in
+      let lb = bytes-length (headWords (idHead board) ++ (ws ++ tailWords s)) in
       let la = length-append ws (tailWords s) in
       omega (arith, words-of-cut first region)
 
-  module _ (d : List ℕ) {b : ℕ} (e : b ≡ imageLength (length region)) where
-    pub room-short : length d < b → refuseRoom d ImageRoomTooSmall ≡ writing d (imageOf board (cutOf recordLimit first region))
+  module _ (d : List ℕ) {b : ℕ} (e : b ≡ imageLength headBytes recordLimit (length region)) where
+    pub room-short : length d < b → refuseWrite d ImageRoomTooSmall ≡ writing d file
     unfolding writing
-    room-short h = sym (cond-true _ _ (lt-ltb (length d) (length (imageOf board (cutOf recordLimit first region))) (omega (arith, image-length))))
+    room-short h = sym (cond-true _ _ (lt-ltb (length d) (length file) (omega (arith, image-length))))
 
     -- the head, the records and the tail, put one after the other
-    module _ {d1 d2 d3 d4 d5 : List ℕ} {sum s : ℕ} (e1 : d1 ≡ sets d 0 (bytesOf (idMark ∷ []))) (e2 : d2 ≡ sets d1 2 (bytesOf (board ∷ [])))
-        (e3 : (sum ≡ recordsSum (cutOf recordLimit first region) % 65536) × (d3 ≡ sets d2 4 (bytesOf (recordsWords (cutOf recordLimit first region)))))
-        (e4 : d4 ≡ sets d3 (b - 4) (bytesOf (okMark ∷ []))) (es : s ≡ wrapAdd board sum) (e5 : d5 ≡ sets d4 (b - 2) (bytesOf (s ∷ []))) where
-      sum-is : s ≡ checksum board (cutOf recordLimit first region)
+    module _ {d1 d2 d3 d4 d5 : List ℕ} {sum s : ℕ} (e1 : d1 ≡ sets d 0 (bytesOf (idMark ∷ []))) (e2 : d2 ≡ sets d1 boardAt (bytesOf (board ∷ [])))
+        (e3 : RecordsPut d2 cut d3 sum)
+        (e4 : d4 ≡ sets d3 (b - tailBytes) (bytesOf (okMark ∷ []))) (es : s ≡ wrapAdd board sum)
+        (e5 : d5 ≡ sets d4 (b - tailBytes + sumAt) (bytesOf (s ∷ []))) where
+      sum-is : s ≡ checksum (headSum (idHead board)) cut
       unfolding wrapAdd checksum
-      sum-is = rw (es, e3 .0) (mod-right board (recordsSum (cutOf recordLimit first region)))
+      sum-is = rw (es, e3 .sum, one-number board) (mod-right board (recordsSum cut))
 
-      image-put : d5 ≡ sets d 0 (imageOf board (cutOf recordLimit first region))
+      image-put : d5 ≡ sets d 0 file
       unfolding imageOf
       image-put =
-          let ws = recordsWords (cutOf recordLimit first region) in
-          let f : 4 + length ws * 2 ≡ b - 4 = omega (arith, words-of-cut first region) in
-          let g : b - 4 + 2 ≡ b - 2 = omega arith in
-          sym (put-on d 0 idMark (board ∷ (ws ++ tailWords (checksum board (cutOf recordLimit first region))))
-          ∙ rw (← e1) (put-on d1 2 board (ws ++ tailWords (checksum board (cutOf recordLimit first region)))
-          ∙ rw (← e2, ← sum-is) (put-more d2 4 ws (okMark ∷ s ∷ [])
-          ∙ rw (← e3 .1, f) (put-on d3 (b - 4) okMark (s ∷ [])
-          ∙ rw (← e4, g) (sym e5)))))
+          let ws = recordsWords cut in
+          let t = tailWords (checksum (headSum (idHead board)) cut) in
+          let f : headBytes + length ws * 2 ≡ b - tailBytes = omega (arith, words-of-cut first region) in
+          sym (put-on d 0 idMark (board ∷ (ws ++ t))
+          ∙ rw (← e1) (put-on d1 boardAt board (ws ++ t)
+          ∙ rw (← e2, ← sum-is) (put-more d2 headBytes ws (okMark ∷ s ∷ [])
+          ∙ rw (← e3 .room, f) (put-on d3 (b - tailBytes) okMark (s ∷ [])
+          ∙ rw (← e4) (sym e5)))))
 
-      pub room-written : b ≤ length d → written (Written b) d5 ≡ writing d (imageOf board (cutOf recordLimit first region))
+      pub room-written : b ≤ length d → wrote (Written b) d5 ≡ writing d file
       unfolding writing
       room-written h =
-          let file = imageOf board (cutOf recordLimit first region) in
           let l : length file ≡ b = image-length ∙ sym e in
           let o : d5 ≡ overwrite d 0 file = image-put ∙ sym (overwrite-sets d 0 file (omega arith)) in
           sym (cond-false _ _ (le-ltb (length d) (length file) (omega arith)) ∙ rw (l, o))
 
 -- The writer's ways, in the order of their numbers.
 module _ (board : ℕ) (m : List ℕ) (first last : ℕ) (room : List ℕ) where
-  pub write-long : tooLong m ≡ true → refuseRoom room MemoryTooLong ≡ writeOf board m first last room
-  unfolding writeOf
+  pub write-long : tooLong m ≡ true → refuseWrite room MemoryTooLong ≡ writeOf board m first last room
+  unfolding writeWith
   write-long h = sym (cond-true _ _ h)
 
   module _ (t : tooLong m ≡ false) where
-    pub write-above : last < first → refuseRoom room FirstAboveLast ≡ writeOf board m first last room
-    unfolding writeOf
+    pub write-above : last < first → refuseWrite room FirstAboveLast ≡ writeOf board m first last room
+    unfolding writeWith
     write-above h = sym (cond-false _ _ t ∙ cond-true _ _ (lt-ltb last first h))
 
-    pub write-past : first ≤ last → length m < last + 1 → refuseRoom room PastMemory ≡ writeOf board m first last room
-    unfolding writeOf
-    write-past h l = sym (cond-false _ _ t ∙ cond-false _ _ (le-ltb last first h) ∙ cond-true _ _ (lt-ltb (length m) (last + 1) l))
+    module _ (h : first ≤ last) where
+      -- the region lies within where its last word does
+      region-is : isWithin (length m) last 1 ≡ isWithin (length m) first (spanOf first last)
+      region-is = ap (λ (end : ℕ). leb end (length m)) (omega arith)
 
-    pub write-here : first ≤ last → last + 1 ≤ length m → writing room (regionImage board m first last) ≡ writeOf board m first last room
-    unfolding writeOf
-    write-here h l = sym (cond-false _ _ t ∙ cond-false _ _ (le-ltb last first h) ∙ cond-false _ _ (le-ltb (length m) (last + 1) l))
+      pub write-past : isWithin (length m) last 1 ≡ false → refuseWrite room PastMemory ≡ writeOf board m first last room
+      unfolding writeWith
+      write-past l = sym (cond-false _ _ t ∙ cond-false _ _ (le-ltb last first h) ∙ cond-false _ _ (sym region-is ∙ l))
+
+      pub write-here : isWithin (length m) last 1 ≡ true → writing room (regionImage (idHead board) recordLimit m first last) ≡ writeOf board m first last room
+      unfolding writeWith
+      write-here l = sym (cond-false _ _ t ∙ cond-false _ _ (le-ltb last first h) ∙ cond-true _ _ (sym region-is ∙ l))

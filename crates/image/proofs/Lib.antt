@@ -3,7 +3,9 @@ pub mod ByteLaws
 pub mod ReadLaws
 pub mod PassLaws
 pub mod LoadLaws
+pub mod HeadLaws
 pub mod FirstLaws
 pub mod EmitLaws
+pub mod OutcomeLaws
 pub mod TripLaws
 pub mod DamageLaws

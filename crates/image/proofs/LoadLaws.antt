@@ -5,7 +5,7 @@ use mathlib.Core.Bool.{Bool, true, false, cond}
 use mathlib.Core.List.{List}
 use native.Mathlib.Omega.{arith}
 use lib.Dec.{eqb}
-use lib.ListN.{length, take, drop}
+use lib.ListN.{length, take}
 use Rattle.refusal.specs.declared.Refusal.{Refusal}
 use Rattle.refusal.specs.declared.Refusal.the-variants.{MemoryTooLong, WrongBoard, SumDiffers}
 use Rattle.refusal.specs.Report.{answered}
@@ -14,13 +14,12 @@ use Rattle.memory.specs.Memory.{tooLong}
 use Rattle.word.specs.Word.{wrapAdd}
 use Rattle.image.specs.declared.LoadAnswer.the-variants.{Refused, Loaded}
 use Rattle.image.specs.declared.parse.Head.{Head}
-use Rattle.image.specs.declared.parse.Head.the-variants.{Board}
 use Rattle.image.specs.declared.check.Checked.the-variants.{Whole, Broken}
-use Rattle.image.specs.Format.{recordsSum, checksum}
-use Rattle.image.specs.Read.{headOf, Body, whole, broken, bodyOf}
+use Rattle.image.specs.Format.{recordLimit, headBytes, bodyBytes, recordsSum, checksum, idHead, headSum}
+use Rattle.image.specs.Read.{Opening, opened, headOf, Body, whole, broken, bodyOf}
 use Rattle.image.specs.Answer.{LoadAnswersApart}
-use Rattle.image.specs.Load.{Loading, refuse, isFor, sumTested, boardTested, loadOf, loaded}
-use Rattle.image.specs.Pass.{summary, isWhole, placedBody}
+use Rattle.image.specs.Load.{Loading, refuseLoad, isFor, sumTested, boardTested, loadWith, loadOf, loaded}
+use Rattle.image.specs.inner.Pass.{headRead, summary, isWhole, placedBody}
 use Rattle.image.proofs.PassLaws.{mod-right}
 use Rattle.image.proofs.ByteLaws.{rest}
 use Rattle.word.proofs.Choice.{cond-true, cond-false}
@@ -33,7 +32,7 @@ load-answers-apart (Loaded a) (Loaded b) e = ap Loaded (same-answer e)
 
 -- the sum test, as the code makes it and as the definition has it
 tested : (m : List ℕ) (head n s stated : ℕ) (b : Body) (t : Bool) → Whole n s stated ≡ summary 0 0 b → eqb (wrapAdd head s) stated ≡ t
-    → sumTested m head b ≡ cond t (record { answer = answered n; memory = placedBody m b }) (refuse m SumDiffers)
+    → sumTested m head b ≡ cond t (record { answer = answered n; memory = placedBody m b }) (refuseLoad m SumDiffers)
 unfolding wrapAdd checksum
 tested m head n s stated (whole rs st) t e h =
     let eo : n ≡ 0 + length rs = cc in
@@ -59,21 +58,39 @@ pub broken-refused : (m : List ℕ) (head : ℕ) (r : Refusal) (b : Body) → Br
 broken-refused m head r (whole rs st) e = let z : _≡_ {A = ℕ} 0 1 = cc in absurd (omega arith)
 broken-refused m head r (broken q) e = let f : r ≡ q = cc in rw f
 
+-- The head, as the code has read it.
+pub head-is : (file : List ℕ) {h k : Head} → headRead h ≡ headOf file → h ≡ k → headOf file ≡ headRead k
+head-is file e f = sym e ∙ ap headRead f
+
+-- the code's test of the one board is the test of a list of one
+pub one-board : (named board : ℕ) → eqb named board ≡ isFor (idHead named) board
+one-board named board = go (eqb named board)
+  where
+    go : (t : Bool) → t ≡ cond t true false
+    go true = refl
+    go false = refl
+
+pub one-number : (board : ℕ) → headSum (idHead board) ≡ board
+one-number board = omega arith
+
 -- The loader's ways, in document 01's order.
-module _ (board : ℕ) (m file : List ℕ) where
-  pub load-long : tooLong m ≡ true → loadOf board m file ≡ refuse m MemoryTooLong
-  unfolding loadOf
+module _ (opening : List ℕ → Opening) (limit board : ℕ) (m file : List ℕ) where
+  pub load-long : tooLong m ≡ true → loadWith opening limit board m file ≡ refuseLoad m MemoryTooLong
+  unfolding loadWith
   load-long h = cond-true _ _ h
 
-  pub load-head : tooLong m ≡ false → {h : Head} → headOf file ≡ h → loadOf board m file ≡ boardTested m board file h
-  unfolding loadOf
-  load-head t e = cond-false _ _ t ∙ ap (boardTested m board file) e
+  pub load-head : tooLong m ≡ false → {o : Opening} → opening file ≡ o → loadWith opening limit board m file ≡ boardTested limit board m file o
+  unfolding loadWith
+  load-head t e = cond-false _ _ t ∙ ap (boardTested limit board m file) e
 
-  -- the code reads the head from the file, and the rest from a slice of it
-  module _ {named : ℕ} (t : tooLong m ≡ false) (e : headOf file ≡ Board named) where
-    pub load-other : isFor named board ≡ false → loaded (Refused WrongBoard) m ≡ loadOf board m file
-    load-other h = sym (load-head t e ∙ cond-false _ _ h)
+-- .. with an `ID` head: the code reads it from the file, and the rest from a slice of it
+module _ (board : ℕ) (m file : List ℕ) {named : ℕ} (t : tooLong m ≡ false) (e : headOf file ≡ opened (idHead named)) where
+  pub load-other : isFor (idHead named) board ≡ false → loaded (Refused WrongBoard) m ≡ loadOf board m file
+  load-other h = sym (load-head headOf recordLimit board m file t e ∙ cond-false _ _ h)
 
-    pub load-here : {o : Loading} → isFor named board ≡ true
-        → o ≡ sumTested m named (bodyOf (length m) (take (length file - 4) (drop 4 file))) → o ≡ loadOf board m file
-    load-here h g = rw (rest file 4) at g ∙ sym (load-head t e ∙ cond-true _ _ h)
+  pub load-here : {l : Loading} → isFor (idHead named) board ≡ true
+      → l ≡ sumTested m named (bodyOf recordLimit (length m) (take (length file - headBytes) (bodyBytes file))) → l ≡ loadOf board m file
+  load-here h g =
+      rw (rest file headBytes) at g
+      ∙ ap (λ (n : ℕ). sumTested m n (bodyOf recordLimit (length m) (bodyBytes file))) (sym (one-number named))
+      ∙ sym (load-head headOf recordLimit board m file t e ∙ cond-true _ _ h)

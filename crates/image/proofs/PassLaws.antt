@@ -8,18 +8,20 @@ use native.Mathlib.Numerals.{add-one}
 use borrow.Rule.Slice.PartMut.{midOf, postOf, putMid, mid-len, post-is}
 use lib.Dec.{lit<}
 use lib.ListN.{length, getD, take, drop, set, length-drop, length-set, drop-of-length-le}
-use lib.Seq.{take-suc, take-suc-set, take-length, length-take-le, take-all, take-at, drop-at, drop-cons, drop-drop, drop-set-lt, append-snoc}
+use lib.Seq.{take-suc, take-suc-set, take-length, length-take-le, take-all, take-at, drop-at, drop-cons, drop-drop, drop-set-lt}
+use lib.Seq.{append-snoc}
 use Rattle.refusal.specs.declared.Refusal.{Refusal}
-use Rattle.image.specs.declared.parse.Part.{Part}
-use Rattle.image.specs.declared.parse.Part.the-variants.{Record as AtRecord, Tail, Offence}
 use Rattle.image.specs.declared.check.Checked.the-variants.{Whole, Broken}
 use Rattle.word.specs.Word.{wrapAdd}
 use Rattle.word.proofs.WordLaws.{add-low}
-use Rattle.image.specs.Bytes.{wordAt, wordsOf, overwrite}
-use Rattle.image.specs.Format.{Record, recordAt, total, recordSum, recordsSum}
-use Rattle.image.specs.Read.{partOf, Body, whole, broken, withRecord, follow, bodyOf}
-use Rattle.image.specs.Pass.{summary, isWhole, placedBody}
-use Rattle.image.proofs.ByteLaws.{rest, words-at, words-length, total-step, overwrite-length}
+use Rattle.records.specs.Records.{Record, recordOver, overwrite}
+use Rattle.records.proofs.OverLaws.{overwrite-length}
+use Rattle.image.specs.Bytes.{wordAt, wordsOf}
+use Rattle.image.specs.Format.{recordHeadBytes, recordBytes, recordAt, total, recordSum, recordsSum}
+use Rattle.image.specs.Read.{Part, recordPart, tailPart, offencePart, partOf, Body, whole, broken, withRecord, follow}
+use Rattle.image.specs.Read.{bodyOf}
+use Rattle.image.specs.inner.Pass.{summary, isWhole, placedBody}
+use Rattle.image.proofs.ByteLaws.{rest, words-at, words-length, total-step}
 use Rattle.image.proofs.ReadLaws.{Sound, part-sound, body-law}
 
 -- a sum modulo 65,536 may be taken modulo 65,536 on the way
@@ -52,7 +54,7 @@ summing-end {ws} {i} k h =
 
 -- The sum of a record from the code's two sums: address and count, and its words.
 pub record-sums : (a : ℕ) (ws : List ℕ) {x y r : ℕ} → x ≡ wrapAdd a (length ws) → y ≡ total ws % 65536 → r ≡ wrapAdd x y
-    → r ≡ recordSum (record { address = a; words = ws }) % 65536
+    → r ≡ recordSum (recordOver a ws) % 65536
 unfolding wrapAdd
 record-sums a ws e f g = rw (g, e, f) (mod-left (a + length ws) (total ws % 65536) ∙ mod-right (a + length ws) (total ws))
 
@@ -102,19 +104,19 @@ module _ {f : ℕ → ℕ} {n : ℕ} {bytes d : List ℕ} {i : ℕ} where
 
 -- The n words behind a record's head are read into the part of d from a to e, which comes back as ys.
 module _ (d : List ℕ) (a e n : ℕ) (bytes : List ℕ) {ys : List ℕ} (span : e ≡ a + n) (room : e ≤ length d)
-    (read : ys ≡ wordsOf (length (midOf a (e - a) d)) (take (length bytes - 6) (drop 6 bytes))) where
-  words-read : ys ≡ wordsOf n (drop 6 bytes)
+    (read : ys ≡ wordsOf (length (midOf a (e - a) d)) (take (length bytes - recordHeadBytes) (drop recordHeadBytes bytes))) where
+  words-read : ys ≡ wordsOf n (drop recordHeadBytes bytes)
   words-read =
       let l : length (midOf a (e - a) d) ≡ n = omega (arith, mid-len a e d room) in
-      read ∙ rw (l, rest bytes 6)
+      read ∙ rw (l, rest bytes recordHeadBytes)
 
-  pub words-stored : putMid a (e - a) d ys ≡ overwrite d a (wordsOf n (drop 6 bytes))
+  pub words-stored : putMid a (e - a) d ys ≡ overwrite d a (wordsOf n (drop recordHeadBytes bytes))
   unfolding overwrite
-  words-stored = rw (words-read, post-is a e d (omega arith), words-length n (drop 6 bytes), append-assoc, span)
+  words-stored = rw (words-read, post-is a e d (omega arith), words-length n (drop recordHeadBytes bytes), append-assoc, span)
 
-  pub words-kept : midOf a (e - a) (putMid a (e - a) d ys) ≡ wordsOf n (drop 6 bytes)
+  pub words-kept : midOf a (e - a) (putMid a (e - a) d ys) ≡ wordsOf n (drop recordHeadBytes bytes)
   words-kept =
-      let l : length ys ≡ e - a = ap length words-read ∙ words-length n (drop 6 bytes) ∙ omega arith in
+      let l : length ys ≡ e - a = ap length words-read ∙ words-length n (drop recordHeadBytes bytes) ∙ omega arith in
       rw (drop-at (take a d) (ys ++ postOf a (e - a) d) a (length-take-le a d (omega arith)), take-at ys (postOf a (e - a) d) (e - a) l) words-read
 
 -- One record more of a body: what the first pass makes of it.
@@ -126,45 +128,45 @@ summary-on n sum next r (whole rs stated) h =
     rw (e, f)
 summary-on n sum next r (broken e) h = refl
 
--- A pass that has come to byte at of a body, which is read for a memory of len words.
-pub record Reading (len : ℕ) (body : List ℕ) (at : ℕ) : Type 0 where
+-- A pass that has come to byte at of a body, which is read with this limit for a memory of len words.
+pub record Reading (limit len : ℕ) (body : List ℕ) (at : ℕ) : Type 0 where
   pub within : at ≤ length body
 
 -- The first pass: the records before byte at are counted and summed.
-pub record Checking (len : ℕ) (body : List ℕ) (at n sum : ℕ) : Type 0 where
-  pub here : Reading len body at
+pub record Checking (limit len : ℕ) (body : List ℕ) (at n sum : ℕ) : Type 0 where
+  pub here : Reading limit len body at
   pub few : n ≤ at
   pub small : sum < 65536
-  pub same : summary n sum (bodyOf len (drop at body)) ≡ summary 0 0 (bodyOf len body)
+  pub same : summary n sum (bodyOf limit len (drop at body)) ≡ summary 0 0 (bodyOf limit len body)
 
-pub checking : (len : ℕ) (body : List ℕ) → Checking len body 0 0 0
-checking len body = record { here = record { within = omega arith }; few = omega arith; small = lit< tt; same = refl }
+pub checking : (limit len : ℕ) (body : List ℕ) → Checking limit len body 0 0 0
+checking limit len body = record { here = record { within = omega arith }; few = omega arith; small = lit< tt; same = refl }
 
 -- what the next part shows; the code reads it off a slice from byte at on
-module _ {len : ℕ} {body : List ℕ} {at : ℕ} {p : Part} (k : Reading len body at) (e : p ≡ partOf len (take (length body - at) (drop at body))) where
-  part-is : p ≡ partOf len (drop at body)
+module _ {limit len : ℕ} {body : List ℕ} {at : ℕ} {p : Part} (k : Reading limit len body at) (e : p ≡ partOf limit len (take (length body - at) (drop at body))) where
+  part-is : p ≡ partOf limit len (drop at body)
   part-is = rw (rest body at) at e
 
-  pub part-whole : {a c : ℕ} → p ≡ AtRecord a c → Sound len (take (length body - at) (drop at body)) a c
-  part-whole {a} {c} f = rw (rest body at) (part-sound len (drop at body) a c (sym part-is ∙ f))
+  pub part-whole : {a c : ℕ} → p ≡ recordPart a c → Sound limit len (take (length body - at) (drop at body)) a c
+  part-whole {a} {c} f = rw (rest body at) (part-sound limit len (drop at body) a c (sym part-is ∙ f))
 
-  pub reading-on : {a c : ℕ} → p ≡ AtRecord a c → Reading len body (at + (6 + c * 2))
+  pub reading-on : {a c : ℕ} → p ≡ recordPart a c → Reading limit len body (at + recordBytes c)
   reading-on {a} {c} f =
-      let s = part-sound len (drop at body) a c (sym part-is ∙ f) in
+      let s = part-sound limit len (drop at body) a c (sym part-is ∙ f) in
       let w = k .within in
       record { within = omega (arith, s .complete, length-drop at body) }
 
-  pub reading-less : {a c : ℕ} → p ≡ AtRecord a c → length body - (at + (6 + c * 2)) < length body - at
+  pub reading-less : {a c : ℕ} → p ≡ recordPart a c → length body - (at + recordBytes c) < length body - at
   reading-less f = omega (arith, reading-on f .within)
 
-  body-is : {q : Part} → p ≡ q → bodyOf len (drop at body) ≡ follow (bodyOf len) (drop at body) q
-  body-is f = body-law len (drop at body) ∙ ap (follow (bodyOf len) (drop at body)) (sym part-is ∙ f)
+  body-is : {q : Part} → p ≡ q → bodyOf limit len (drop at body) ≡ follow (bodyOf limit len) (drop at body) q
+  body-is f = body-law limit len (drop at body) ∙ ap (follow (bodyOf limit len) (drop at body)) (sym part-is ∙ f)
 
-module _ {len : ℕ} {body : List ℕ} {at n sum : ℕ} {p : Part} (k : Checking len body at n sum)
-    (e : p ≡ partOf len (take (length body - at) (drop at body))) where
-  pub checking-on : {a c t next : ℕ} → p ≡ AtRecord a c
+module _ {limit len : ℕ} {body : List ℕ} {at n sum : ℕ} {p : Part} (k : Checking limit len body at n sum)
+    (e : p ≡ partOf limit len (take (length body - at) (drop at body))) where
+  pub checking-on : {a c t next : ℕ} → p ≡ recordPart a c
       → t ≡ recordSum (recordAt a c (take (length body - at) (drop at body))) % 65536 → next ≡ wrapAdd sum t
-      → Checking len body (at + (6 + c * 2)) (n + 1) next
+      → Checking limit len body (at + recordBytes c) (n + 1) next
   checking-on {a} {c} {t} {next} f g h =
       let u : next ≡ wrapAdd sum (recordSum (recordAt a c (drop at body)) % 65536) = h ∙ ap (wrapAdd sum) (rw (rest body at) at g) in
       record {
@@ -172,19 +174,19 @@ module _ {len : ℕ} {body : List ℕ} {at n sum : ℕ} {p : Part} (k : Checking
         few = omega (arith, k .few);
         small = rw h (add-low sum t);
         same =
-            rw (← drop-drop (6 + c * 2) at body) (
-            summary-on n sum next (recordAt a c (drop at body)) (bodyOf len (drop (6 + c * 2) (drop at body))) u
+            rw (← drop-drop (recordBytes c) at body) (
+            summary-on n sum next (recordAt a c (drop at body)) (bodyOf limit len (drop (recordBytes c) (drop at body))) u
             ∙ ap (summary n sum) (sym (body-is (k .here) e f))
             ∙ k .same);
       }
 
-  pub checking-tail : {stated : ℕ} → p ≡ Tail stated → Whole n sum stated ≡ summary 0 0 (bodyOf len body)
+  pub checking-tail : {stated : ℕ} → p ≡ tailPart stated → Whole n sum stated ≡ summary 0 0 (bodyOf limit len body)
   checking-tail {stated} f =
       let z : n + 0 ≡ n = omega arith in
       let m : (sum + 0) % 65536 ≡ sum = omega (arith, k .small) in
       rw (z, m) at (ap (summary n sum) (sym (body-is (k .here) e f))) ∙ k .same
 
-  pub checking-broken : {r : Refusal} → p ≡ Offence r → Broken r ≡ summary 0 0 (bodyOf len body)
+  pub checking-broken : {r : Refusal} → p ≡ offencePart r → Broken r ≡ summary 0 0 (bodyOf limit len body)
   checking-broken f = ap (summary n sum) (sym (body-is (k .here) e f)) ∙ k .same
 
 whole-rest : (r : Record) (b : Body) → isWhole (withRecord r b) ≡ true → isWhole b ≡ true
@@ -196,43 +198,43 @@ placed-rest m r (whole rs stated) h = refl
 placed-rest m r (broken e) h = let z : _≡_ {A = ℕ} 0 1 = cc in absurd (omega arith)
 
 -- The second pass: the records before byte at are stored, and what is left is known to be whole.
-pub record Storing (body m₀ : List ℕ) (at : ℕ) (m : List ℕ) : Type 0 where
-  pub here : Reading (length m₀) body at
+pub record Storing (limit : ℕ) (body m₀ : List ℕ) (at : ℕ) (m : List ℕ) : Type 0 where
+  pub here : Reading limit (length m₀) body at
   pub size : length m ≡ length m₀
-  pub good : isWhole (bodyOf (length m₀) (drop at body)) ≡ true
-  pub same : placedBody m (bodyOf (length m₀) (drop at body)) ≡ placedBody m₀ (bodyOf (length m₀) body)
+  pub good : isWhole (bodyOf limit (length m₀) (drop at body)) ≡ true
+  pub same : placedBody m (bodyOf limit (length m₀) (drop at body)) ≡ placedBody m₀ (bodyOf limit (length m₀) body)
 
-pub storing : (body m : List ℕ) → isWhole (bodyOf (length m) body) ≡ true → Storing body m 0 m
-storing body m h = record { here = record { within = omega arith }; size = refl; good = h; same = refl }
+pub storing : (limit : ℕ) (body m : List ℕ) → isWhole (bodyOf limit (length m) body) ≡ true → Storing limit body m 0 m
+storing limit body m h = record { here = record { within = omega arith }; size = refl; good = h; same = refl }
 
-module _ {body m₀ : List ℕ} {at : ℕ} {m : List ℕ} {p : Part} (k : Storing body m₀ at m)
-    (e : p ≡ partOf (length m) (take (length body - at) (drop at body))) where
+module _ {limit : ℕ} {body m₀ : List ℕ} {at : ℕ} {m : List ℕ} {p : Part} (k : Storing limit body m₀ at m)
+    (e : p ≡ partOf limit (length m) (take (length body - at) (drop at body))) where
   -- the memory keeps its length, so that both passes read alike
-  pub storing-part : p ≡ partOf (length m₀) (take (length body - at) (drop at body))
+  pub storing-part : p ≡ partOf limit (length m₀) (take (length body - at) (drop at body))
   storing-part = rw (k .size) at e
 
-  pub storing-on : {a c : ℕ} {n : List ℕ} → p ≡ AtRecord a c
-      → n ≡ overwrite m a (recordAt a c (take (length body - at) (drop at body)) .words) → Storing body m₀ (at + (6 + c * 2)) n
+  pub storing-on : {a c : ℕ} {n : List ℕ} → p ≡ recordPart a c
+      → n ≡ overwrite m a (recordAt a c (take (length body - at) (drop at body)) .words) → Storing limit body m₀ (at + recordBytes c) n
   storing-on {a} {c} {n} f g =
       let r = recordAt a c (drop at body) in
-      let b = bodyOf (length m₀) (drop (6 + c * 2) (drop at body)) in
+      let b = bodyOf limit (length m₀) (drop (recordBytes c) (drop at body)) in
       let v : n ≡ overwrite m a (r .words) = rw (rest body at) at g in
       let w = part-whole (k .here) storing-part f .within in
-      let l = words-length c (drop 6 (drop at body)) in
+      let l = words-length c (drop recordHeadBytes (drop at body)) in
       let o = overwrite-length m a (r .words) (omega (arith, k .size)) in
       let i = body-is (k .here) storing-part f in
       let h : isWhole b ≡ true = whole-rest r b (rw i at (k .good)) in
       record {
         here = reading-on (k .here) storing-part f;
         size = ap length v ∙ o ∙ k .size;
-        good = rw (← drop-drop (6 + c * 2) at body) h;
-        same = rw (← drop-drop (6 + c * 2) at body, v) (placed-rest m r b h ∙ ap (placedBody m) (sym i) ∙ k .same);
+        good = rw (← drop-drop (recordBytes c) at body) h;
+        same = rw (← drop-drop (recordBytes c) at body, v) (placed-rest m r b h ∙ ap (placedBody m) (sym i) ∙ k .same);
       }
 
-  pub storing-tail : {stated : ℕ} → p ≡ Tail stated → m ≡ placedBody m₀ (bodyOf (length m₀) body)
+  pub storing-tail : {stated : ℕ} → p ≡ tailPart stated → m ≡ placedBody m₀ (bodyOf limit (length m₀) body)
   storing-tail f = ap (placedBody m) (sym (body-is (k .here) storing-part f)) ∙ k .same
 
-  pub storing-broken : {A : Type 0} {r : Refusal} → p ≡ Offence r → A
+  pub storing-broken : {A : Type 0} {r : Refusal} → p ≡ offencePart r → A
   storing-broken f =
       let b : false ≡ true = ap isWhole (sym (body-is (k .here) storing-part f)) ∙ k .good in
       let z : _≡_ {A = ℕ} 0 1 = cc in

@@ -1,29 +1,36 @@
 -- Loading a written file puts the region back, and another board refuses it.
-use Prim.Native.Nat.{ℕ, zero, suc, _+_, _-_, _*_, _/_, _%_, _<_, _≤_}
+use Prim.Native.Nat.{ℕ, _+_, _-_, _*_, _/_, _%_, _<_, _≤_}
 use mathlib.Core.Path.{_≡_, refl, sym, ap, _∙_}
 use mathlib.Core.Bool.{Bool, true, false, cond}
 use mathlib.Core.List.{List, [], _∷_, _++_, append-assoc}
 use native.Mathlib.Omega.{arith}
-use lib.Dec.{eqb, ltb}
-use lib.ListN.{length, getD, take, drop, length-append, length-take, length-drop, take-append-drop, List·getD-append}
-use lib.Seq.{drop-drop, drop-at, take-append-seam, getD-append-add, getD-take, getD-drop, length-take-le, sets}
-use borrow.Author.Tests.{eq-eqb, ne-eqb, eqb-true, eqb-false, ltb-false, le-ltb}
+use lib.Dec.{ltb, lit<, lit≤}
+use lib.ListN.{length, take, drop, length-append, length-take, length-drop}
+use lib.Seq.{drop-drop, drop-at, take-append-seam, getD-take, getD-drop}
+use borrow.Author.Tests.{eq-eqb, ne-eqb, ltb-false, le-ltb, leb-true, le-leb}
 use Rattle.refusal.specs.declared.Refusal.the-variants.{MemoryTooLong, FirstAboveLast, PastMemory, ImageRoomTooSmall, WrongBoard}
 use Rattle.refusal.specs.Report.{answered}
 use Rattle.refusal.proofs.ReportLaws.{no-answer}
 use Rattle.memory.specs.Memory.{peekOf}
 use Rattle.word.proofs.Choice.{cond-true, cond-false}
-use Rattle.image.specs.declared.parse.Head.the-variants.{Board}
-use Rattle.image.specs.declared.parse.Part.the-variants.{Record as AtRecord, Tail}
-use Rattle.image.specs.Bytes.{wordAt, wordsOf, bytesOf, overwrite}
-use Rattle.image.specs.Format.{recordLimit, Record, recordOver, checksum, recordWords, recordsWords, tailWords, imageOf}
-use Rattle.image.specs.Read.{headOf, placeOf, recordOf, tailOf, partOf, whole, follow, bodyOf}
-use Rattle.image.specs.Load.{refuse, placed, accept, sumAgrees, sumTested, loadOf}
-use Rattle.image.specs.Write.{cutFrom, cutOf, recordCount, regionOf, Writing, refuseRoom, writing, regionImage, writeOf}
-use Rattle.image.specs.Trip.{PutBack, RoundTrip, isRight, OtherBoard}
-use Rattle.image.proofs.ByteLaws.{bytes-length, bytes-append, sets-split, overwrite-sets, overwrite-length}
+use Rattle.records.specs.Records.{Record, isWithin, allWithin, overwrite}
+use Rattle.records.specs.Cut.{spanOf, wordsBetween, cutOf, recordCount}
+use Rattle.records.specs.Laws.{Sized}
+use Rattle.records.proofs.OverLaws.{overwrite-length, read-inside, read-below, read-above}
+use Rattle.records.proofs.PlacedLaws.{split}
+use Rattle.records.proofs.RegionLaws.{cut-laws}
+use Rattle.image.specs.Bytes.{wordAt, wordsOf, bytesOf}
+use Rattle.image.specs.Format.{recordLimit, recordHeadBytes, recordBytes, checksum, ImageHead, idHead, headWords}
+use Rattle.image.specs.Format.{headLength, headSum, recordWords, recordsWords, tailWords, imageOf}
+use Rattle.image.specs.Read.{Opening, opened, headOf, recordPart, tailPart, placeOf, recordOf, tailOf, partOf, whole}
+use Rattle.image.specs.Read.{follow, bodyOf}
+use Rattle.image.specs.Load.{refuseLoad, acceptLoad, isFor, sumAgrees, sumTested, loadWith}
+use Rattle.image.specs.Write.{Writing, refuseWrite, writing, regionImage, writeWith}
+use Rattle.image.specs.Laws.{ReadsBack, PutBack, RoundTrip, OwnRoundTrip, isRight, OtherBoard, OwnOtherBoard}
+use Rattle.image.proofs.ByteLaws.{bytes-length, bytes-append}
 use Rattle.image.proofs.ReadLaws.{body-law}
-use Rattle.image.proofs.LoadLaws.{load-head}
+use Rattle.image.proofs.LoadLaws.{load-head, one-board}
+use Rattle.image.proofs.HeadLaws.{own-head}
 
 words-back : (ws t : List ℕ) → wordsOf (length ws) (bytesOf ws ++ t) ≡ ws
 unfolding wordAt
@@ -32,20 +39,11 @@ words-back (w ∷ ws) t =
     let e : w / 256 * 256 + w % 256 ≡ w = omega arith in
     rw (e, words-back ws t)
 
--- a record that the loader takes into a memory of len words
-pub record Fits (len : ℕ) (r : Record) : Type 0 where
-  pub some : 0 < length (r .words)
-  pub few : length (r .words) ≤ recordLimit
-  pub within : r .address + length (r .words) ≤ len
-
-abbrev pub AllFit : ℕ → List Record → Type 0
-AllFit len [] = Unit {0}
-AllFit len (r ∷ rs) = Fits len r × AllFit len rs
-
 -- Reading what is written: a record at the front of the bytes, and the tail.
-part-record : (len : ℕ) (r : Record) (t : List ℕ) → Fits len r → partOf len (bytesOf (recordWords r) ++ t) ≡ AtRecord (r .address) (length (r .words))
+part-record : (limit len : ℕ) (r : Record) (t : List ℕ) → 0 < length (r .words) → length (r .words) ≤ limit → r .address + length (r .words) ≤ len
+    → partOf limit len (bytesOf (recordWords r) ++ t) ≡ recordPart (r .address) (length (r .words))
 unfolding partOf recordOf placeOf wordAt
-part-record len r t f =
+part-record limit len r t some few within =
     let a = r .address in
     let c = length (r .words) in
     let ea : a / 256 * 256 + a % 256 ≡ a = omega arith in
@@ -53,243 +51,168 @@ part-record len r t f =
     let l = length (bytesOf (recordWords r) ++ t) in
     let e1 = length-append (bytesOf (r .words)) t in
     let e2 = bytes-length (r .words) in
-    let s = f .some in
     rw (
       le-ltb l 2 (omega arith),
-      le-ltb l 6 (omega arith),
+      le-ltb l recordHeadBytes (omega arith),
       ea,
       ec,
       ne-eqb c 0 (λ z. omega arith),
-      le-ltb recordLimit c (f .few),
-      le-ltb l (6 + c * 2) (omega arith),
-      le-ltb len (a + c) (f .within),
+      le-ltb limit c few,
+      le-ltb l (recordBytes c) (omega arith),
+      le-leb (a + c) len within,
     )
 
-part-tail : (len s : ℕ) → partOf len (bytesOf (tailWords s)) ≡ Tail s
+part-tail : (limit len s : ℕ) → partOf limit len (bytesOf (tailWords s)) ≡ tailPart s
 unfolding partOf tailOf wordAt
-part-tail len s =
+part-tail limit len s =
     let e : s / 256 * 256 + s % 256 ≡ s = omega arith in
     rw e
 
-record-rest : (r : Record) (t : List ℕ) → drop (6 + length (r .words) * 2) (bytesOf (recordWords r) ++ t) ≡ t
+record-rest : (r : Record) (t : List ℕ) → drop (recordBytes (length (r .words))) (bytesOf (recordWords r) ++ t) ≡ t
 record-rest r t =
-    sym (drop-drop (length (r .words) * 2) 6 (bytesOf (recordWords r) ++ t))
+    sym (drop-drop (length (r .words) * 2) recordHeadBytes (bytesOf (recordWords r) ++ t))
     ∙ drop-at (bytesOf (r .words)) t (length (r .words) * 2) (bytes-length (r .words))
 
-body-image : (len : ℕ) (rs : List Record) (s : ℕ) → AllFit len rs → bodyOf len (bytesOf (recordsWords rs ++ tailWords s)) ≡ whole rs s
-body-image len [] s f = body-law len (bytesOf (tailWords s)) ∙ ap (follow (bodyOf len) (bytesOf (tailWords s))) (part-tail len s)
-body-image len (r ∷ rs) s f =
+-- Records that a loader takes: of 1 to `limit` words each, within a memory of len.
+pub record Taken (limit len : ℕ) (rs : List Record) : Type 0 where
+  pub sized : Sized limit rs
+  pub within : allWithin len rs ≡ true
+
+body-image : (limit len : ℕ) (rs : List Record) (s : ℕ) → Taken limit len rs → bodyOf limit len (bytesOf (recordsWords rs ++ tailWords s)) ≡ whole rs s
+body-image limit len [] s k =
+    body-law limit len (bytesOf (tailWords s)) ∙ ap (follow (bodyOf limit len) (bytesOf (tailWords s))) (part-tail limit len s)
+body-image limit len (r ∷ rs) s k =
     let t = bytesOf (recordsWords rs ++ tailWords s) in
     let e : bytesOf (recordsWords (r ∷ rs) ++ tailWords s) ≡ bytesOf (recordWords r) ++ t =
     ap bytesOf (append-assoc (recordWords r) (recordsWords rs) (tailWords s)) ∙ bytes-append (recordWords r) (recordsWords rs ++ tailWords s) in
+    let w = split len r rs (k .within) in
+    let z = k .sized in
+    let f = body-image limit len rs s (record { sized = z .2; within = w .later }) in
     rw e (
-    body-law len (bytesOf (recordWords r) ++ t)
-    ∙ ap (follow (bodyOf len) (bytesOf (recordWords r) ++ t)) (part-record len r t (f .0))
-    ∙ rw (record-rest r t, words-back (r .words) t, body-image len rs s (f .1)))
+    body-law limit len (bytesOf (recordWords r) ++ t)
+    ∙ ap (follow (bodyOf limit len) (bytesOf (recordWords r) ++ t)) (part-record limit len r t (z .0) (z .1) (w .here))
+    ∙ rw (record-rest r t, words-back (r .words) t, f))
 
--- Loading the file of any records that fit.
-module _ (board : ℕ) (rs : List Record) where
-  head-image : headOf (imageOf board rs) ≡ Board board
-  unfolding imageOf headOf wordAt
-  head-image =
-      let e : board / 256 * 256 + board % 256 ≡ board = omega arith in
-      rw (le-ltb (length (imageOf board rs)) 4 (omega arith), e)
+-- Loading the file of any records that are taken, with any head that is read back.
+image-rest : (head : ImageHead) (rs : List Record)
+    → drop (headLength head) (imageOf head rs) ≡ bytesOf (recordsWords rs ++ tailWords (checksum (headSum head) rs))
+unfolding imageOf
+image-rest head rs =
+    let t = recordsWords rs ++ tailWords (checksum (headSum head) rs) in
+    ap (drop (headLength head)) (bytes-append (headWords head) t)
+    ∙ drop-at (bytesOf (headWords head)) (bytesOf t) (headLength head) (bytes-length (headWords head))
 
-  image-body : (len : ℕ) → AllFit len rs → bodyOf len (drop 4 (imageOf board rs)) ≡ whole rs (checksum board rs)
+image-body : (limit len : ℕ) (head : ImageHead) (rs : List Record) → Taken limit len rs
+    → bodyOf limit len (drop (headLength head) (imageOf head rs)) ≡ whole rs (checksum (headSum head) rs)
+image-body limit len head rs k =
+    ap (bodyOf limit len) (image-rest head rs) ∙ body-image limit len rs (checksum (headSum head) rs) k
+
+sum-right : (head : ℕ) (rs : List Record) → sumAgrees head rs (checksum head rs) ≡ true
+sum-right head rs = eq-eqb (checksum head rs) (checksum head rs) refl
+
+module _ (opening : List ℕ → Opening) (head : ImageHead) (back : ReadsBack opening head) (limit : ℕ) (rs : List Record)
+    (board : ℕ) (n : List ℕ) (h : length n ≤ 65536) where
+  image-opens : opening (imageOf head rs) ≡ opened head
   unfolding imageOf
-  image-body len f = body-image len rs (checksum board rs) f
+  image-opens =
+      let t = recordsWords rs ++ tailWords (checksum (headSum head) rs) in
+      ap opening (bytes-append (headWords head) t) ∙ back (bytesOf t)
 
-  sum-right : sumAgrees board rs (checksum board rs) ≡ true
-  sum-right = eq-eqb (checksum board rs) (checksum board rs) refl
+  pub load-image : isFor head board ≡ true → Taken limit (length n) rs → loadWith opening limit board n (imageOf head rs) ≡ acceptLoad n rs
+  load-image f k =
+      load-head opening limit board n (imageOf head rs) (le-ltb 65536 (length n) h) image-opens
+      ∙ cond-true _ _ f
+      ∙ ap (sumTested n (headSum head)) (image-body limit (length n) head rs k)
+      ∙ cond-true _ _ (sum-right (headSum head) rs)
 
-  pub load-image : (n : List ℕ) → length n ≤ 65536 → AllFit (length n) rs → loadOf board n (imageOf board rs) ≡ accept n rs
-  load-image n h f =
-      load-head board n (imageOf board rs) (le-ltb 65536 (length n) h) head-image
-      ∙ cond-true _ _ (eq-eqb board board refl)
-      ∙ ap (sumTested n board) (image-body (length n) f)
-      ∙ cond-true _ _ sum-right
-
-  load-elsewhere : (other : ℕ) → (board ≡ other → ⊥) → (n : List ℕ) → length n ≤ 65536 → loadOf other n (imageOf board rs) ≡ refuse n WrongBoard
-  load-elsewhere other d n h =
-      load-head other n (imageOf board rs) (le-ltb 65536 (length n) h) head-image
-      ∙ cond-false _ _ (ne-eqb board other d)
-
--- The records of a region fit, there are as many as there should be, and storing them one after the other lays the region.
-cut-fits : (n limit a : ℕ) (ws : List ℕ) (len : ℕ) → 0 < limit → limit ≤ recordLimit → a + length ws ≤ len → AllFit len (cutFrom n limit a ws)
-cut-fits zero limit a ws len p q h = tt
-cut-fits (suc n) limit a ws len p q h = go (eqb (length ws) 0) refl (cut-fits n limit (a + length (take limit ws)) (drop limit ws) len p q)
-  where
-    cs : List ℕ
-    cs = take limit ws
-
-    ds : List ℕ
-    ds = drop limit ws
-
-    go : (t : Bool) → eqb (length ws) 0 ≡ t → (a + length cs + length ds ≤ len → AllFit len (cutFrom n limit (a + length cs) ds))
-        → AllFit len (cond t [] (recordOver a cs ∷ cutFrom n limit (a + length cs) ds))
-    go true e ih = tt
-    go false e ih =
-        let ne = eqb-false (length ws) 0 e in
-        let lc = length-take limit ws in
-        let ld = length-drop limit ws in
-        (record { some = omega arith; few = omega arith; within = omega arith }, ih (omega arith))
-
-pub cut-count : (n a : ℕ) (ws : List ℕ) → length ws ≤ n → length (cutFrom n recordLimit a ws) ≡ recordCount (length ws)
-cut-count zero a ws h = omega arith
-cut-count (suc n) a ws h = go (eqb (length ws) 0) refl (cut-count n (a + length (take recordLimit ws)) (drop recordLimit ws))
-  where
-    cs : List ℕ
-    cs = take recordLimit ws
-
-    ds : List ℕ
-    ds = drop recordLimit ws
-
-    go : (t : Bool) → eqb (length ws) 0 ≡ t → (length ds ≤ n → length (cutFrom n recordLimit (a + length cs) ds) ≡ recordCount (length ds))
-        → length (cond t [] (recordOver a cs ∷ cutFrom n recordLimit (a + length cs) ds)) ≡ recordCount (length ws)
-    go true e ih = omega (arith, eqb-true (length ws) 0 e)
-    go false e ih =
-        let ne = eqb-false (length ws) 0 e in
-        let ld = length-drop recordLimit ws in
-        omega (arith, ih (omega arith))
-
-overwrite-nil : (d : List ℕ) (a : ℕ) (ws : List ℕ) → length ws ≡ 0 → a ≤ length d → d ≡ overwrite d a ws
-overwrite-nil d a [] e h = sym (overwrite-sets d a [] (omega arith))
-overwrite-nil d a (w ∷ ws) e h = absurd (omega arith)
-
-overwrite-split : (d : List ℕ) (a : ℕ) (xs ys : List ℕ) → a + length xs + length ys ≤ length d
-    → overwrite (overwrite d a xs) (a + length xs) ys ≡ overwrite d a (xs ++ ys)
-overwrite-split d a xs ys h =
-    let l = length-append xs ys in
-    let o = overwrite-length d a xs (omega arith) in
-    overwrite-sets (overwrite d a xs) (a + length xs) ys (omega arith)
-    ∙ ap (λ (n : List ℕ). sets n (a + length xs) ys) (overwrite-sets d a xs (omega arith))
-    ∙ sym (sets-split d a xs ys)
-    ∙ sym (overwrite-sets d a (xs ++ ys) (omega arith))
-
-placed-cut : (n limit a : ℕ) (ws m : List ℕ) → 0 < limit → length ws ≤ n → a + length ws ≤ length m → placed m (cutFrom n limit a ws) ≡ overwrite m a ws
-placed-cut zero limit a ws m p h l = overwrite-nil m a ws (omega arith) (omega arith)
-placed-cut (suc n) limit a ws m p h l =
-    go (eqb (length ws) 0) refl (placed-cut n limit (a + length (take limit ws)) (drop limit ws) (overwrite m a (take limit ws)) p)
-  where
-    cs : List ℕ
-    cs = take limit ws
-
-    ds : List ℕ
-    ds = drop limit ws
-
-    go : (t : Bool) → eqb (length ws) 0 ≡ t
-        → (length ds ≤ n → a + length cs + length ds ≤ length (overwrite m a cs) → placed (overwrite m a cs) (cutFrom n limit (a + length cs) ds) ≡ overwrite (overwrite m a cs) (a + length cs) ds)
-        → placed m (cond t [] (recordOver a cs ∷ cutFrom n limit (a + length cs) ds)) ≡ overwrite m a ws
-    go true e ih = overwrite-nil m a ws (eqb-true (length ws) 0 e) (omega arith)
-    go false e ih =
-        let ne = eqb-false (length ws) 0 e in
-        let lc = length-take limit ws in
-        let ld = length-drop limit ws in
-        let o = overwrite-length m a cs (omega arith) in
-        ih (omega arith) (omega arith)
-        ∙ overwrite-split m a cs ds (omega arith)
-        ∙ ap (overwrite m a) (take-append-drop limit ws)
-
--- What a run laid over another reads: itself where it lies, and the other elsewhere.
-module _ (d : List ℕ) (a : ℕ) (xs : List ℕ) (h : a + length xs ≤ length d) where
-  front-length : length (take a d ++ xs) ≡ a + length xs
-  front-length = omega (arith, length-append (take a d) xs, length-take-le a d (omega arith))
-
-  read-inside : (j z : ℕ) → j < length xs → getD (overwrite d a xs) (a + j) z ≡ getD xs j z
-  unfolding overwrite
-  read-inside j z p =
-      let l = front-length in
-      let e = length-take-le a d (omega arith) in
-      List·getD-append (take a d ++ xs) (drop (a + length xs) d) z (a + j) (omega arith)
-      ∙ rw e at (getD-append-add (take a d) xs j z)
-
-  read-below : (i z : ℕ) → i < a → getD (overwrite d a xs) i z ≡ getD d i z
-  unfolding overwrite
-  read-below i z p =
-      let l = front-length in
-      let e = length-take-le a d (omega arith) in
-      List·getD-append (take a d ++ xs) (drop (a + length xs) d) z i (omega arith)
-      ∙ List·getD-append (take a d) xs z i (omega arith)
-      ∙ getD-take a d i z p
-
-  read-above : (j z : ℕ) → getD (overwrite d a xs) (a + length xs + j) z ≡ getD d (a + length xs + j) z
-  unfolding overwrite
-  read-above j z =
-      rw front-length at (getD-append-add (take a d ++ xs) (drop (a + length xs) d) j z)
-      ∙ getD-drop (a + length xs) d j z
+  pub load-elsewhere : isFor head board ≡ false → loadWith opening limit board n (imageOf head rs) ≡ refuseLoad n WrongBoard
+  load-elsewhere f =
+      load-head opening limit board n (imageOf head rs) (le-ltb 65536 (length n) h) image-opens
+      ∙ cond-false _ _ f
 
 -- The writer answers a length only if no test refuses.
-record Wrote (board : ℕ) (m : List ℕ) (first last : ℕ) (file : List ℕ) : Type 0 where
+record Made (head : ImageHead) (cut : ℕ) (m : List ℕ) (first last : ℕ) (file : List ℕ) : Type 0 where
   small : length m ≤ 65536
   ordered : first ≤ last
   within : last < length m
-  is : file ≡ regionImage board m first last
+  is : file ≡ regionImage head cut m first last
 
-module _ (board : ℕ) (m : List ℕ) (first last : ℕ) (file room : List ℕ) where
+module _ (head : ImageHead) (cut : ℕ) (m : List ℕ) (first last : ℕ) (file room : List ℕ) where
   image : List ℕ
-  image = regionImage board m first last
+  image = regionImage head cut m first last
 
-  made : (u v w x : Bool) → ltb 65536 (length m) ≡ u → ltb last first ≡ v → ltb (length m) (last + 1) ≡ w → ltb (length room) (length image) ≡ x
-      → let r : Writing = cond u (refuseRoom room MemoryTooLong) (cond v (refuseRoom room FirstAboveLast) (cond w (refuseRoom room PastMemory)
-      (cond x (refuseRoom room ImageRoomTooSmall) (record { answer = answered (length image); room = overwrite room 0 image })))) in
-      r .answer ≡ answered (length file) → take (length file) (r .room) ≡ file → Wrote board m first last file
+  made-by : (u v w x : Bool) → ltb 65536 (length m) ≡ u → ltb last first ≡ v → isWithin (length m) first (spanOf first last) ≡ w
+      → ltb (length room) (length image) ≡ x
+      → let r : Writing = cond u (refuseWrite room MemoryTooLong) (cond v (refuseWrite room FirstAboveLast) (cond w
+      (cond x (refuseWrite room ImageRoomTooSmall) (record { answer = answered (length image); room = overwrite room 0 image }))
+      (refuseWrite room PastMemory))) in
+      r .answer ≡ answered (length file) → take (length file) (r .room) ≡ file → Made head cut m first last file
   unfolding image overwrite
-  made true v w x a b c d e f = no-answer e
-  made false true w x a b c d e f = no-answer e
-  made false false true x a b c d e f = no-answer e
-  made false false false true a b c d e f = no-answer e
-  made false false false false a b c d e f =
+  made-by true v w x a b c d e f = no-answer e
+  made-by false true w x a b c d e f = no-answer e
+  made-by false false false x a b c d e f = no-answer e
+  made-by false false true true a b c d e f = no-answer e
+  made-by false false true false a b c d e f =
       let l : length image ≡ length file = cc in
       let g = take-append-seam image (drop (0 + length image) room) in
+      let o = ltb-false last first b in
       record {
         small = ltb-false 65536 (length m) a;
-        ordered = ltb-false last first b;
-        within = omega (arith, ltb-false (length m) (last + 1) c);
+        ordered = o;
+        within = omega (arith, leb-true (first + spanOf first last) (length m) c);
         is = sym f ∙ rw (← l) g;
       }
 
-  wrote : writeOf board m first last room .answer ≡ answered (length file) → take (length file) (writeOf board m first last room .room) ≡ file
-      → Wrote board m first last file
-  unfolding writeOf writing image
-  wrote e f =
-      made (ltb 65536 (length m)) (ltb last first) (ltb (length m) (last + 1)) (ltb (length room) (length (regionImage board m first last))) refl refl refl refl e f
+  made : writeWith head cut m first last room .answer ≡ answered (length file) → take (length file) (writeWith head cut m first last room .room) ≡ file
+      → Made head cut m first last file
+  unfolding writeWith writing image
+  made e f =
+      made-by (ltb 65536 (length m)) (ltb last first) (isWithin (length m) first (spanOf first last))
+      (ltb (length room) (length (regionImage head cut m first last))) refl refl refl refl e f
 
-module _ (m : List ℕ) (first last : ℕ) (o : first ≤ last) (h : last < length m) where
-  region-length : length (regionOf m first last) ≡ last + 1 - first
-  region-length = omega (arith, length-take (last + 1 - first) (drop first m), length-drop first m)
+-- a cut is taken by every loader whose limit is not lower
+sized-more : (cut limit : ℕ) (rs : List Record) → cut ≤ limit → Sized cut rs → Sized limit rs
+sized-more cut limit [] h k = tt
+sized-more cut limit (r ∷ rs) h k = (k .0, omega (arith, k .1), sized-more cut limit rs h (k .2))
 
-  region-fits : (len : ℕ) → last < len → AllFit len (cutOf recordLimit first (regionOf m first last))
-  unfolding cutOf
-  region-fits len l =
-      let ws = regionOf m first last in
-      cut-fits (length ws) recordLimit first ws len (omega arith) (omega arith) (omega (arith, region-length))
+module _ (cut limit : ℕ) (p : 0 < cut) (q : cut ≤ limit) (m : List ℕ) (first last : ℕ) (o : first ≤ last) (h : last < length m) where
+  region-length : length (wordsBetween m first last) ≡ spanOf first last
+  region-length = omega (arith, length-take (spanOf first last) (drop first m), length-drop first m)
 
-  region-count : length (cutOf recordLimit first (regionOf m first last)) ≡ recordCount (last + 1 - first)
-  unfolding cutOf
-  region-count =
-      let ws = regionOf m first last in
-      cut-count (length ws) first ws (omega arith) ∙ ap recordCount region-length
+  region-within : (len : ℕ) → last < len → isWithin len first (length (wordsBetween m first last)) ≡ true
+  region-within len l = le-leb (first + length (wordsBetween m first last)) len (omega (arith, region-length))
 
-  region-placed : (n : List ℕ) → last < length n → placed n (cutOf recordLimit first (regionOf m first last)) ≡ overwrite n first (regionOf m first last)
-  unfolding cutOf
-  region-placed n l =
-      let ws = regionOf m first last in
-      placed-cut (length ws) recordLimit first ws n (omega arith) (omega arith) (omega (arith, region-length))
+  region-taken : (len : ℕ) → last < len → Taken limit len (cutOf cut first (wordsBetween m first last))
+  region-taken len l =
+      let ws = wordsBetween m first last in
+      record {
+        sized = sized-more cut limit (cutOf cut first ws) q (cut-laws .sized cut first ws p);
+        within = cut-laws .within cut first ws len p (region-within len l);
+      }
+
+  -- the records of the region, counted and put
+  region-accepted : (n : List ℕ) → last < length n
+      → acceptLoad n (cutOf cut first (wordsBetween m first last))
+      ≡ record { answer = answered (recordCount cut (spanOf first last)); memory = overwrite n first (wordsBetween m first last) }
+  region-accepted n l =
+      let ws = wordsBetween m first last in
+      rw (cut-laws .count cut first ws p, region-length, cut-laws .laid cut first ws n p (region-within (length n) l))
 
   region-back : (n : List ℕ) → last < length n
-      → PutBack m first last n (record { answer = answered (recordCount (last + 1 - first)); memory = overwrite n first (regionOf m first last) })
+      → PutBack (recordCount cut (spanOf first last)) m first last n
+      (record { answer = answered (recordCount cut (spanOf first last)); memory = overwrite n first (wordsBetween m first last) })
   unfolding peekOf
   region-back n l =
-      let ws = regionOf m first last in
+      let ws = wordsBetween m first last in
       let c = region-length in
       let f : first + length ws ≤ length n = omega arith in
       record {
-        records = refl;
+        answer = refl;
         region = λ a p q.
             let e : first + (a - first) ≡ a = omega arith in
             rw e at (
             read-inside n first ws f (a - first) 0xFFFF (omega arith)
-            ∙ getD-take (last + 1 - first) (drop first m) (a - first) 0xFFFF (omega arith)
+            ∙ getD-take (spanOf first last) (drop first m) (a - first) 0xFFFF (omega arith)
             ∙ getD-drop first m (a - first) 0xFFFF);
         below = λ a p. read-below n first ws f a 0xFFFF p;
         above = λ a p.
@@ -299,21 +222,33 @@ module _ (m : List ℕ) (first last : ℕ) (o : first ≤ last) (h : last < leng
       }
 
 pub round-trip : RoundTrip
-round-trip board m first last file k n h l =
-    let w = wrote board m first last file (k .room) (k .answer) (k .bytes) in
+round-trip opening head back board here cut limit p q m first last file k n h l =
+    let w = made head cut m first last file (k .room) (k .answer) (k .bytes) in
     let o = w .ordered in
     let i = w .within in
-    let e : loadOf board n file ≡ record { answer = answered (recordCount (last + 1 - first)); memory = overwrite n first (regionOf m first last) } =
-    ap (loadOf board n) (w .is)
-    ∙ load-image board (cutOf recordLimit first (regionOf m first last)) n h (region-fits m first last o i (length n) l)
-    ∙ rw (region-count m first last o i, region-placed m first last o i n l) in
-    rw e (region-back m first last o i n l)
+    let rs = cutOf cut first (wordsBetween m first last) in
+    let e =
+    ap (loadWith opening limit board n) (w .is)
+    ∙ load-image opening head back limit rs board n h here (region-taken cut limit p q m first last o i (length n) l)
+    ∙ region-accepted cut limit p q m first last o i n l in
+    rw e (region-back cut limit p q m first last o i n l)
 
 pub other-board : OtherBoard
-other-board board m first last file k other d n h =
-    let w = wrote board m first last file (k .room) (k .answer) (k .bytes) in
-    let rs = cutOf recordLimit first (regionOf m first last) in
-    let f = region-fits m first last (w .ordered) (w .within) (length m) (w .within) in (
-      ap (loadOf other n) (w .is) ∙ load-elsewhere board rs other d n h,
-      rw (w .is) (ap (isRight board) (image-body board rs (length m) f) ∙ sum-right board rs),
+other-board opening head back other away cut limit p q m first last file k n h =
+    let w = made head cut m first last file (k .room) (k .answer) (k .bytes) in
+    let rs = cutOf cut first (wordsBetween m first last) in
+    let f = region-taken cut limit p q m first last (w .ordered) (w .within) (length m) (w .within) in (
+      ap (loadWith opening limit other n) (w .is) ∙ load-elsewhere opening head back limit rs other n h away,
+      rw (w .is) (ap (isRight (headSum head)) (image-body limit (length m) head rs f) ∙ sum-right (headSum head) rs),
     )
+
+-- .. of document 01's own writer and loader
+pub own-round-trip : OwnRoundTrip
+own-round-trip board =
+    let here = sym (one-board board board) ∙ eq-eqb board board refl in
+    round-trip headOf (idHead board) (own-head .back board) board here recordLimit recordLimit (lit< tt) (lit≤ tt)
+
+pub own-other-board : OwnOtherBoard
+own-other-board board other d =
+    let away = sym (one-board board other) ∙ ne-eqb board other d in
+    other-board headOf (idHead board) (own-head .back board) other away recordLimit recordLimit (lit< tt) (lit≤ tt)

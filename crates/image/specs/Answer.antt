@@ -9,7 +9,7 @@ use Rattle.image.specs.declared.WriteAnswer.{WriteAnswer}
 use Rattle.image.specs.declared.WriteAnswer.the-variants.{Refused as WriteRefused, Written}
 use Rattle.image.specs.declared.FirstRecord.{FirstRecord}
 use Rattle.image.specs.declared.FirstRecord.the-variants.{Record as FoundRecord, NoRecord}
-use Rattle.image.specs.Read.{First, first, none}
+use Rattle.image.specs.Read.{First, recordFirst, noneFirst}
 
 -- "The loader answers the number of records."
 abbrev pub loadReported : LoadAnswer → Report ℕ
@@ -23,8 +23,8 @@ writeReported (Written bytes) = answered bytes
 
 -- a record's address and count, or that there is none
 abbrev pub firstReported : FirstRecord → First
-firstReported (FoundRecord address count) = first address count
-firstReported NoRecord = none
+firstReported (FoundRecord address count) = recordFirst address count
+firstReported NoRecord = noneFirst
 
 -- no two answers are reported alike
 abbrev pub LoadAnswersApart : Type 0

@@ -1,7 +1,7 @@
--- Document 01, "Image records": "numbers big-endian", two bytes each. And a run of words or bytes laid over another.
+-- Document 01, "Image records": "numbers big-endian", two bytes each.
 use Prim.Native.Nat.{ℕ, zero, suc, _+_, _*_, _/_, _%_}
-use mathlib.Core.List.{List, [], _∷_, _++_}
-use lib.ListN.{length, getD, take, drop}
+use mathlib.Core.List.{List, [], _∷_}
+use lib.ListN.{getD, drop}
 
 -- the number at byte i: the high byte first
 unfoldable pub wordAt : List ℕ → ℕ → ℕ
@@ -16,7 +16,3 @@ wordsOf (suc n) bytes = wordAt bytes 0 ∷ wordsOf n (drop 2 bytes)
 abbrev pub bytesOf : List ℕ → List ℕ
 bytesOf [] = []
 bytesOf (w ∷ ws) = w / 256 ∷ w % 256 ∷ bytesOf ws
-
--- xs in the place of what stands in d from index a on; all else stays
-unfoldable pub overwrite : List ℕ → ℕ → List ℕ → List ℕ
-overwrite d a xs = take a d ++ xs ++ drop (a + length xs) d

@@ -1,10 +1,11 @@
 -- Document 01, "Image records": "`ID` board; any number of `AT` address, count 1 to 1,024, words; `OK` sum; end."
-use Prim.Native.Nat.{ℕ, _+_, _%_}
+use Prim.Native.Nat.{ℕ, _+_, _*_, _%_}
 use mathlib.Core.List.{List, [], _∷_, _++_}
 use lib.ListN.{length, drop}
+use Rattle.records.specs.Records.{Record, recordOver}
 use Rattle.image.specs.Bytes.{wordsOf, bytesOf}
 
--- "count 1 to 1,024"
+-- "count 1 to 1,024". Each definition of a file takes the limit as an argument; this is the one of the loader and the writer.
 abbrev pub recordLimit : ℕ
 recordLimit = 1024
 
@@ -18,17 +19,41 @@ atMark = 0x4154
 abbrev pub okMark : ℕ
 okMark = 0x4F4B
 
--- a record's words, and the address of the first of them
-pub record Record : Type 0 where
-  pub address : ℕ
-  pub words : List ℕ
+-- "`ID` board": where the board stands, and the bytes of the whole
+abbrev pub boardAt : ℕ
+boardAt = 2
 
-abbrev pub recordOver : ℕ → List ℕ → Record
-recordOver address words = record { address = address; words = words }
+abbrev pub headBytes : ℕ
+headBytes = 4
 
--- the record of so many words whose bytes begin with its mark: the words stand behind mark, address and count
+-- "`AT` address, count", and the words behind them
+abbrev pub addressAt : ℕ
+addressAt = 2
+
+abbrev pub countAt : ℕ
+countAt = 4
+
+abbrev pub recordHeadBytes : ℕ
+recordHeadBytes = 6
+
+-- "`OK` sum"
+abbrev pub sumAt : ℕ
+sumAt = 2
+
+abbrev pub tailBytes : ℕ
+tailBytes = 4
+
+-- the bytes of a record of so many words
+abbrev pub recordBytes : ℕ → ℕ
+recordBytes count = recordHeadBytes + count * 2
+
+-- what follows an `ID` head
+abbrev pub bodyBytes : List ℕ → List ℕ
+bodyBytes file = drop headBytes file
+
+-- the record of so many words whose bytes begin with its mark
 abbrev pub recordAt : ℕ → ℕ → List ℕ → Record
-recordAt address count bytes = recordOver address (wordsOf count (drop 6 bytes))
+recordAt address count bytes = recordOver address (wordsOf count (drop recordHeadBytes bytes))
 
 abbrev pub total : List ℕ → ℕ
 total [] = 0
@@ -47,8 +72,25 @@ unfoldable pub checksum : ℕ → List Record → ℕ
 checksum head rs = (head + recordsSum rs) % 65536
 
 -- A file is a head, records and a tail. All of it is marks and numbers of two bytes.
-abbrev pub headWords : ℕ → List ℕ
-headWords board = idMark ∷ board ∷ []
+
+-- a head: its mark, the numbers behind the mark, and the boards that these say the file is for
+pub record ImageHead : Type 0 where
+  pub mark : ℕ
+  pub numbers : List ℕ
+  pub boards : List ℕ
+
+-- "`ID` board"
+abbrev pub idHead : ℕ → ImageHead
+idHead board = record { mark = idMark; numbers = board ∷ []; boards = board ∷ [] }
+
+abbrev pub headWords : ImageHead → List ℕ
+headWords h = h .mark ∷ h .numbers
+
+abbrev pub headLength : ImageHead → ℕ
+headLength h = length (headWords h) * 2
+
+abbrev pub headSum : ImageHead → ℕ
+headSum h = total (h .numbers)
 
 abbrev pub recordWords : Record → List ℕ
 recordWords r = atMark ∷ r .address ∷ length (r .words) ∷ r .words
@@ -60,5 +102,5 @@ recordsWords (r ∷ rs) = recordWords r ++ recordsWords rs
 abbrev pub tailWords : ℕ → List ℕ
 tailWords sum = okMark ∷ sum ∷ []
 
-unfoldable pub imageOf : ℕ → List Record → List ℕ
-imageOf board rs = bytesOf (headWords board ++ (recordsWords rs ++ tailWords (checksum board rs)))
+unfoldable pub imageOf : ImageHead → List Record → List ℕ
+imageOf head rs = bytesOf (headWords head ++ (recordsWords rs ++ tailWords (checksum (headSum head) rs)))

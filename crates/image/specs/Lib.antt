@@ -1,9 +1,9 @@
--- What the loader and the writer promise.
+-- What the loader and the writer promise. Read Format first, the form of a file; then Read, Load and Write. Laws says what they come to.
 pub mod Bytes
 pub mod Format
 pub mod Read
-pub mod Pass
 pub mod Answer
 pub mod Load
 pub mod Write
-pub mod Trip
+pub mod Laws
+pub mod inner

@@ -1,40 +1,23 @@
 -- The writer: "The writer covers a region with full records of 1,024, the last perhaps shorter", refused by 1, 7, 11 and 13 in this order.
-use Prim.Native.Nat.{ℕ, zero, suc, _+_, _-_, _*_, _/_}
+use Prim.Native.Nat.{ℕ, _+_, _*_}
 use mathlib.Core.Bool.{cond}
-use mathlib.Core.List.{List, [], _∷_}
-use lib.Dec.{eqb, ltb}
-use lib.ListN.{length, take, drop}
+use mathlib.Core.List.{List}
+use lib.Dec.{ltb}
+use lib.ListN.{length}
 use Rattle.refusal.specs.declared.Refusal.{Refusal}
 use Rattle.refusal.specs.declared.Refusal.the-variants.{MemoryTooLong, FirstAboveLast, PastMemory, ImageRoomTooSmall}
 use Rattle.refusal.specs.Refusals.{refusalNumber}
 use Rattle.refusal.specs.Report.{Report, refused, answered}
 use Rattle.memory.specs.Memory.{tooLong}
+use Rattle.records.specs.Records.{isWithin, overwrite}
+use Rattle.records.specs.Cut.{spanOf, wordsBetween, cutOf, recordCount}
 use Rattle.image.specs.declared.WriteAnswer.{WriteAnswer}
-use Rattle.image.specs.Bytes.{overwrite}
-use Rattle.image.specs.Format.{recordLimit, Record, recordOver, imageOf}
+use Rattle.image.specs.Format.{recordLimit, recordHeadBytes, tailBytes, ImageHead, idHead, imageOf}
 use Rattle.image.specs.Answer.{writeReported}
 
--- the words ws from address a on, cut into records of `limit` words, the last perhaps shorter: each begins where the one before it
--- ends. By at most n records, of a word or more each.
-abbrev pub cutFrom : ℕ → ℕ → ℕ → List ℕ → List Record
-cutFrom zero limit a ws = []
-cutFrom (suc n) limit a ws =
-    cond (eqb (length ws) 0) []
-    (recordOver a (take limit ws) ∷ cutFrom n limit (a + length (take limit ws)) (drop limit ws))
-
-unfoldable pub cutOf : ℕ → ℕ → List ℕ → List Record
-cutOf limit a ws = cutFrom (length ws) limit a ws
-
--- how many records so many words make, and how many bytes their file has: each record has a head of 6, and the file a head and a tail of 4
-abbrev pub recordCount : ℕ → ℕ
-recordCount n = (n + (recordLimit - 1)) / recordLimit
-
-abbrev pub imageLength : ℕ → ℕ
-imageLength n = 8 + recordCount n * 6 + n * 2
-
--- the words from first to last, both included
-abbrev pub regionOf : List ℕ → ℕ → ℕ → List ℕ
-regionOf m first last = take (last + 1 - first) (drop first m)
+-- how many bytes the file of n words has, with a head of so many: each record has a head of its own, and the file a tail
+abbrev pub imageLength : ℕ → ℕ → ℕ → ℕ
+imageLength head limit n = head + tailBytes + recordCount limit n * recordHeadBytes + n * 2
 
 -- all that a writing leaves: what it reports, and the room
 pub record Writing : Type 0 where
@@ -42,27 +25,31 @@ pub record Writing : Type 0 where
   pub room : List ℕ
 
 -- a refusal leaves every byte as it was
-abbrev pub refuseRoom : List ℕ → Refusal → Writing
-refuseRoom room r = record { answer = refused (refusalNumber r); room = room }
+abbrev pub refuseWrite : List ℕ → Refusal → Writing
+refuseWrite room r = record { answer = refused (refusalNumber r); room = room }
 
 -- "It answers the length; image room past it is untouched." "13: image room too small"
 unfoldable pub writing : List ℕ → List ℕ → Writing
 writing room file =
-    cond (ltb (length room) (length file)) (refuseRoom room ImageRoomTooSmall)
+    cond (ltb (length room) (length file)) (refuseWrite room ImageRoomTooSmall)
     (record { answer = answered (length file); room = overwrite room 0 file })
 
 -- the file of a region
-abbrev pub regionImage : ℕ → List ℕ → ℕ → ℕ → List ℕ
-regionImage board m first last = imageOf board (cutOf recordLimit first (regionOf m first last))
+abbrev pub regionImage : ImageHead → ℕ → List ℕ → ℕ → ℕ → List ℕ
+regionImage head limit m first last = imageOf head (cutOf limit first (wordsBetween m first last))
 
--- "7: first above last"; "11: .. written region past the lent memory"
-unfoldable pub writeOf : ℕ → List ℕ → ℕ → ℕ → List ℕ → Writing
-writeOf board m first last room =
-    cond (tooLong m) (refuseRoom room MemoryTooLong)
-    (cond (ltb last first) (refuseRoom room FirstAboveLast)
-    (cond (ltb (length m) (last + 1)) (refuseRoom room PastMemory)
-    (writing room (regionImage board m first last))))
+-- the writer of files with this head, which cuts at `limit`. "7: first above last"; "11: .. written region past the lent memory"
+unfoldable pub writeWith : ImageHead → ℕ → List ℕ → ℕ → ℕ → List ℕ → Writing
+writeWith head limit m first last room =
+    cond (tooLong m) (refuseWrite room MemoryTooLong)
+    (cond (ltb last first) (refuseWrite room FirstAboveLast)
+    (cond (isWithin (length m) first (spanOf first last)) (writing room (regionImage head limit m first last))
+    (refuseWrite room PastMemory)))
+
+-- document 01's own: "`ID` board", "full records of 1,024"
+abbrev pub writeOf : ℕ → List ℕ → ℕ → ℕ → List ℕ → Writing
+writeOf board m first last room = writeWith (idHead board) recordLimit m first last room
 
 -- the outcome that the code's answer and the room at its return stand for: the writer's contract says that it is `writeOf`
-abbrev pub written : WriteAnswer → List ℕ → Writing
-written r room = record { answer = writeReported r; room = room }
+abbrev pub wrote : WriteAnswer → List ℕ → Writing
+wrote r room = record { answer = writeReported r; room = room }

@@ -1,10 +1,10 @@
 // The loader's first pass: every record is tested and summed, and nothing is stored.
 ghost use mathlib.Core.Path.{_≡_};
-ghost use Prim.Native.Nat.{_+_, _*_, _%_, _≤_};
+ghost use Prim.Native.Nat.{_%_, _≤_};
 ghost use lib.ListN.{length};
-ghost use Rattle.image.specs.Format.{recordLimit, recordAt, recordSum};
+ghost use Rattle.image.specs.Format.{recordLimit, recordBytes, recordAt, recordSum};
 ghost use Rattle.image.specs.Read.{bodyOf};
-ghost use Rattle.image.specs.Pass.{summary};
+ghost use Rattle.image.specs.inner.Pass.{summary};
 use crate::format;
 use crate::parse;
 use crate::parse::Part;
@@ -22,7 +22,7 @@ pub(crate) enum Checked {
 
 // What the record at the front of `bytes` adds to the sum. Its words are read into the scratch room, since none may be stored yet.
 fn sum_record(bytes: &[u8], address: u16, count: u16, scratch: &mut [u16]) -> u16
-    requires { ⌜ (6 + count * 2 ≤ length (now bytes)) × (count ≤ recordLimit) × (recordLimit ≤ length (now scratch)) ⌝ }
+    requires { ⌜ (recordBytes count ≤ length (now bytes)) × (count ≤ recordLimit) × (recordLimit ≤ length (now scratch)) ⌝ }
     ensures { λ r. ⌜ r ≡ recordSum (recordAt address count (now (bytes .entry))) % 65536 ⌝ }
 {
     let words = count as usize;
@@ -32,7 +32,7 @@ fn sum_record(bytes: &[u8], address: u16, count: u16, scratch: &mut [u16]) -> u1
 
 // `body` is the file after its head, and `size` the length of the memory that it is for.
 pub(crate) fn check_records(body: &[u8], size: usize) -> Checked
-    ensures { λ r. ⌜ r ≡ summary 0 0 (bodyOf size (now (body .entry))) ⌝ }
+    ensures { λ r. ⌜ r ≡ summary 0 0 (bodyOf recordLimit size (now (body .entry))) ⌝ }
 {
     let mut scratch = [0u16; format::RECORD_LIMIT];
     let mut at = 0;

@@ -1,11 +1,14 @@
 // The writer's work: the head, the records of a region and the tail, put into the lent room.
 ghost use mathlib.Core.Path.{_≡_};
-ghost use Prim.Native.Nat.{_+_, _-_, _*_, _%_, _≤_, min};
+ghost use Prim.Native.Nat.{_+_, _-_, _*_, _≤_, min};
 ghost use lib.ListN.{length};
 ghost use lib.Seq.{sets};
 ghost use Rattle.image.specs.Bytes.{bytesOf};
-ghost use Rattle.image.specs.Format.{recordLimit, recordOver, recordWords, recordsWords, recordsSum, imageOf};
-ghost use Rattle.image.specs.Write.{cutOf, imageLength, written, writing};
+ghost use Rattle.records.specs.Records.{recordOver};
+ghost use Rattle.records.specs.Cut.{cutOf};
+ghost use Rattle.image.specs.Format.{recordLimit, headBytes, recordBytes, recordWords, idHead, imageOf};
+ghost use Rattle.image.specs.Write.{imageLength, wrote, writing};
+ghost use Rattle.image.specs.inner.Emit.{RecordsPut};
 use crate::WriteAnswer;
 use crate::format;
 use refusal::Refusal;
@@ -13,7 +16,7 @@ use refusal::Refusal;
 // The bytes of the file of a region.
 fn image_length(words: usize) -> usize
     requires { ⌜ words ≤ 65536 ⌝ }
-    ensures { λ r. ⌜ r ≡ imageLength words ⌝ }
+    ensures { λ r. ⌜ r ≡ imageLength headBytes recordLimit words ⌝ }
 {
     let records = (words + (format::RECORD_LIMIT - 1)) / format::RECORD_LIMIT;
     format::HEAD_BYTES + format::TAIL_BYTES + records * format::RECORD_HEAD_BYTES + words * 2
@@ -30,14 +33,14 @@ fn put_words(room: &mut [u8], at: usize, words: &[u16])
     }
 }
 
-// A record of these words, of which there are at most 1,024.
+// A record of these words, of which there are at most as many as the limit.
 fn put_record(room: &mut [u8], at: usize, address: u16, words: &[u16])
-    requires { ⌜ (length (now words) ≤ recordLimit) × (at + (6 + length (now words) * 2) ≤ length (now room)) ⌝ }
+    requires { ⌜ (length (now words) ≤ recordLimit) × (at + recordBytes (length (now words)) ≤ length (now room)) ⌝ }
     ensures { λ r. ⌜ now (room .exit) ≡ sets (now (room .entry)) at (bytesOf (recordWords (recordOver address (now (words .entry))))) ⌝ }
 {
     format::put_word(room, at, format::AT_MARK);
-    format::put_word(room, at + 2, address);
-    format::put_word(room, at + 4, words.len() as u16);
+    format::put_word(room, at + format::ADDRESS_AT, address);
+    format::put_word(room, at + format::COUNT_AT, words.len() as u16);
     put_words(room, at + format::RECORD_HEAD_BYTES, words);
 }
 
@@ -55,8 +58,8 @@ fn record_end(start: usize, words: usize) -> usize
 
 // The records of a region that begins at the address `first`, put behind the head. Answers their sum.
 fn put_records(room: &mut [u8], first: u16, region: &[u16]) -> u16
-    requires { ⌜ (first + length (now region) ≤ 65536) × (imageLength (length (now region)) ≤ length (now room)) ⌝ }
-    ensures { λ r. ⌜ (r ≡ recordsSum (cutOf recordLimit first (now (region .entry))) % 65536) × (now (room .exit) ≡ sets (now (room .entry)) 4 (bytesOf (recordsWords (cutOf recordLimit first (now (region .entry)))))) ⌝ }
+    requires { ⌜ (first + length (now region) ≤ 65536) × (imageLength headBytes recordLimit (length (now region)) ≤ length (now room)) ⌝ }
+    ensures { λ r. ⌜ RecordsPut (now (room .entry)) (cutOf recordLimit first (now (region .entry))) (now (room .exit)) r ⌝ }
 {
     let mut at = format::HEAD_BYTES;
     let mut start = 0;
@@ -75,16 +78,17 @@ fn put_records(room: &mut [u8], first: u16, region: &[u16]) -> u16
 // The file of a region that begins at the address `first`.
 pub(crate) fn put_image(room: &mut [u8], board: u16, first: u16, region: &[u16]) -> WriteAnswer
     requires { ⌜ first + length (now region) ≤ 65536 ⌝ }
-    ensures { λ r. ⌜ written r (now (room .exit)) ≡ writing (now (room .entry)) (imageOf board (cutOf recordLimit first (now (region .entry)))) ⌝ }
+    ensures { λ r. ⌜ wrote r (now (room .exit)) ≡ writing (now (room .entry)) (imageOf (idHead board) (cutOf recordLimit first (now (region .entry)))) ⌝ }
 {
     let bytes = image_length(region.len());
     if room.len() < bytes {
         return WriteAnswer::Refused(Refusal::ImageRoomTooSmall);
     }
     format::put_word(room, 0, format::ID_MARK);
-    format::put_word(room, 2, board);
+    format::put_word(room, format::BOARD_AT, board);
     let sum = put_records(room, first, region);
-    format::put_word(room, bytes - format::TAIL_BYTES, format::OK_MARK);
-    format::put_word(room, bytes - 2, word::wrapping_add(board, sum));
+    let tail = bytes - format::TAIL_BYTES;
+    format::put_word(room, tail, format::OK_MARK);
+    format::put_word(room, tail + format::SUM_AT, word::wrapping_add(board, sum));
     WriteAnswer::Written(bytes)
 }

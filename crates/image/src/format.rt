@@ -5,7 +5,8 @@ ghost use Prim.Native.Nat.{_+_, _*_, _/_, _%_, _<_, _≤_};
 ghost use lib.ListN.{length};
 ghost use lib.Seq.{sets};
 ghost use Rattle.image.specs.Bytes.{wordAt, wordsOf, bytesOf};
-ghost use Rattle.image.specs.Format.{recordLimit, total, recordOver, recordSum};
+ghost use Rattle.records.specs.Records.{recordOver};
+ghost use Rattle.image.specs.Format.{recordLimit, total, recordSum};
 
 // No record has more words. The writer cuts a region into records of so many.
 pub(crate) const RECORD_LIMIT: usize = 1024;
@@ -17,10 +18,20 @@ pub(crate) const AT_MARK: u16 = 0x4154;
 
 pub(crate) const OK_MARK: u16 = 0x4F4B;
 
-// ID and the board; AT, address and count; OK and the sum.
+// ID and the board: where the board stands, and the bytes of the whole.
+pub(crate) const BOARD_AT: usize = 2;
+
 pub const HEAD_BYTES: usize = 4;
 
+// AT, address and count; the words follow.
+pub(crate) const ADDRESS_AT: usize = 2;
+
+pub(crate) const COUNT_AT: usize = 4;
+
 pub const RECORD_HEAD_BYTES: usize = 6;
+
+// OK and the sum.
+pub(crate) const SUM_AT: usize = 2;
 
 pub(crate) const TAIL_BYTES: usize = 4;
 

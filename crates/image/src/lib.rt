@@ -4,10 +4,11 @@ ghost use mathlib.Core.Path.{_≡_};
 ghost use lib.Dec.{eqb};
 ghost use lib.ListN.{length};
 ghost use Rattle.word.specs.Word.{wrapAdd};
+ghost use Rattle.image.specs.Format.{recordLimit, idHead};
 ghost use Rattle.image.specs.Read.{partOf, firstOf, bodyOf};
 ghost use Rattle.image.specs.Answer.{firstReported};
 ghost use Rattle.image.specs.Load.{isFor, loaded, sumTested, loadOf};
-ghost use Rattle.image.specs.Write.{written, writeOf};
+ghost use Rattle.image.specs.Write.{wrote, writeOf};
 use refusal::Refusal;
 
 mod check;
@@ -40,7 +41,7 @@ pub enum FirstRecord {
 
 // The board test: whether the file belongs on this board.
 fn is_for(named: u16, board: u16) -> bool
-    ensures { λ r. ⌜ r ≡ isFor named board ⌝ }
+    ensures { λ r. ⌜ r ≡ isFor (idHead named) board ⌝ }
 {
     named == board
 }
@@ -54,7 +55,7 @@ fn sum_agrees(head: u16, records: u16, stated: u16) -> bool
 
 // Loads what follows a head whose own numbers add up to `head`.
 fn load_body(head: u16, mem: &mut [u16], body: &[u8]) -> LoadAnswer
-    ensures { λ r. ⌜ loaded r (now (mem .exit)) ≡ sumTested (now (mem .entry)) head (bodyOf (length (now (mem .entry))) (now (body .entry))) ⌝ }
+    ensures { λ r. ⌜ loaded r (now (mem .exit)) ≡ sumTested (now (mem .entry)) head (bodyOf recordLimit (length (now (mem .entry))) (now (body .entry))) ⌝ }
 {
     let checked = check::check_records(body, mem.len());
     match checked {
@@ -97,7 +98,7 @@ pub fn load(board: u16, mem: &mut [u16], file: &[u8]) -> LoadAnswer
 
 // The record at the front of a file's bytes, after the head or another record, for a memory of `size` words.
 pub fn first_record(bytes: &[u8], size: usize) -> FirstRecord
-    ensures { λ r. ⌜ firstReported r ≡ firstOf (partOf size (now (bytes .entry))) ⌝ }
+    ensures { λ r. ⌜ firstReported r ≡ firstOf (partOf recordLimit size (now (bytes .entry))) ⌝ }
 {
     let part = parse::read_part(bytes, size);
     match part {
@@ -112,7 +113,7 @@ pub fn first_record(bytes: &[u8], size: usize) -> FirstRecord
 
 // Writes the words from `first` to `last` as a file for a board. The room past the file stays.
 pub fn write(board: u16, mem: &[u16], first: u16, last: u16, room: &mut [u8]) -> WriteAnswer
-    ensures { λ r. ⌜ written r (now (room .exit)) ≡ writeOf board (now (mem .entry)) first last (now (room .entry)) ⌝ }
+    ensures { λ r. ⌜ wrote r (now (room .exit)) ≡ writeOf board (now (mem .entry)) first last (now (room .entry)) ⌝ }
 {
     let long = memory::is_too_long(mem);
     if long {
@@ -121,10 +122,13 @@ pub fn write(board: u16, mem: &[u16], first: u16, last: u16, room: &mut [u8]) ->
     if last < first {
         return WriteAnswer::Refused(Refusal::FirstAboveLast);
     }
-    let start = first as usize;
-    let end = last as usize + 1;
-    if mem.len() < end {
-        return WriteAnswer::Refused(Refusal::PastMemory);
+    // the last word lies within, and so does the whole region
+    let within = records::is_within(mem.len(), last, 1);
+    if within {
+        let start = first as usize;
+        let end = last as usize + 1;
+        emit::put_image(room, board, first, &mem[start..end])
+    } else {
+        WriteAnswer::Refused(Refusal::PastMemory)
     }
-    emit::put_image(room, board, first, &mem[start..end])
 }

@@ -1,6 +1,8 @@
 // Reads the parts of a file, one at a time: the head, and after it what stands at the front of the rest.
 ghost use mathlib.Core.Path.{_≡_};
+ghost use Rattle.image.specs.Format.{recordLimit};
 ghost use Rattle.image.specs.Read.{headOf, recordOf, tailOf, partOf};
+ghost use Rattle.image.specs.inner.Pass.{headRead, partRead};
 use crate::format;
 use refusal::Refusal;
 
@@ -19,7 +21,7 @@ pub(crate) enum Part {
 }
 
 pub(crate) fn read_head(file: &[u8]) -> Head
-    ensures { λ r. ⌜ r ≡ headOf (now (file .entry)) ⌝ }
+    ensures { λ r. ⌜ headRead r ≡ headOf (now (file .entry)) ⌝ }
 {
     if file.len() < format::HEAD_BYTES {
         return Head::Malformed;
@@ -27,18 +29,18 @@ pub(crate) fn read_head(file: &[u8]) -> Head
     if format::word_at(file, 0) != format::ID_MARK {
         return Head::Malformed;
     }
-    Head::Board(format::word_at(file, 2))
+    Head::Board(format::word_at(file, format::BOARD_AT))
 }
 
 // A record for a memory of `size` words: its count is tested before its words are, and these before where they go.
 fn read_record(bytes: &[u8], size: usize) -> Part
-    ensures { λ r. ⌜ r ≡ recordOf size (now (bytes .entry)) ⌝ }
+    ensures { λ r. ⌜ partRead r ≡ recordOf recordLimit size (now (bytes .entry)) ⌝ }
 {
     if bytes.len() < format::RECORD_HEAD_BYTES {
         return Part::Offence(Refusal::MalformedImage);
     }
-    let address = format::word_at(bytes, 2);
-    let count = format::word_at(bytes, 4);
+    let address = format::word_at(bytes, format::ADDRESS_AT);
+    let count = format::word_at(bytes, format::COUNT_AT);
     let words = count as usize;
     if words == 0 {
         return Part::Offence(Refusal::MalformedImage);
@@ -49,27 +51,29 @@ fn read_record(bytes: &[u8], size: usize) -> Part
     if bytes.len() < format::RECORD_HEAD_BYTES + words * 2 {
         return Part::Offence(Refusal::MalformedImage);
     }
-    if size < address as usize + words {
-        return Part::Offence(Refusal::PastMemory);
-    }
-    Part::Record {
-        address: address,
-        count: count,
+    let within = records::is_within(size, address, count as u32);
+    if within {
+        Part::Record {
+            address: address,
+            count: count,
+        }
+    } else {
+        Part::Offence(Refusal::PastMemory)
     }
 }
 
-// The tail is the file's last four bytes.
+// The tail is the end of the file.
 fn read_tail(bytes: &[u8]) -> Part
-    ensures { λ r. ⌜ r ≡ tailOf (now (bytes .entry)) ⌝ }
+    ensures { λ r. ⌜ partRead r ≡ tailOf (now (bytes .entry)) ⌝ }
 {
     if bytes.len() != format::TAIL_BYTES {
         return Part::Offence(Refusal::MalformedImage);
     }
-    Part::Tail(format::word_at(bytes, 2))
+    Part::Tail(format::word_at(bytes, format::SUM_AT))
 }
 
 pub(crate) fn read_part(bytes: &[u8], size: usize) -> Part
-    ensures { λ r. ⌜ r ≡ partOf size (now (bytes .entry)) ⌝ }
+    ensures { λ r. ⌜ partRead r ≡ partOf recordLimit size (now (bytes .entry)) ⌝ }
 {
     if bytes.len() < 2 {
         return Part::Offence(Refusal::MalformedImage);

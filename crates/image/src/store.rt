@@ -1,18 +1,18 @@
 // The loader's second pass: the records are stored in file order, so that later words win.
 ghost use mathlib.Core.Path.{_≡_};
 ghost use mathlib.Core.Bool.{true};
-ghost use Prim.Native.Nat.{_+_, _*_, _≤_};
+ghost use Prim.Native.Nat.{_+_, _≤_};
 ghost use lib.ListN.{length};
-ghost use Rattle.image.specs.Bytes.{overwrite};
-ghost use Rattle.image.specs.Format.{recordAt};
+ghost use Rattle.records.specs.Records.{overwrite};
+ghost use Rattle.image.specs.Format.{recordLimit, recordBytes, recordAt};
 ghost use Rattle.image.specs.Read.{bodyOf};
-ghost use Rattle.image.specs.Pass.{isWhole, placedBody};
+ghost use Rattle.image.specs.inner.Pass.{isWhole, placedBody};
 use crate::format;
 use crate::parse;
 use crate::parse::Part;
 
 fn store_record(bytes: &[u8], address: u16, count: u16, mem: &mut [u16])
-    requires { ⌜ (6 + count * 2 ≤ length (now bytes)) × (address + count ≤ length (now mem)) ⌝ }
+    requires { ⌜ (recordBytes count ≤ length (now bytes)) × (address + count ≤ length (now mem)) ⌝ }
     ensures { λ r. ⌜ now (mem .exit) ≡ overwrite (now (mem .entry)) address (recordAt address count (now (bytes .entry)) .words) ⌝ }
 {
     let words = count as usize;
@@ -23,8 +23,8 @@ fn store_record(bytes: &[u8], address: u16, count: u16, mem: &mut [u16])
 
 // `body` is the file after its head, which the first pass found whole.
 pub(crate) fn store_records(body: &[u8], mem: &mut [u16])
-    requires { ⌜ isWhole (bodyOf (length (now mem)) (now body)) ≡ true ⌝ }
-    ensures { λ r. ⌜ now (mem .exit) ≡ placedBody (now (mem .entry)) (bodyOf (length (now (mem .entry))) (now (body .entry))) ⌝ }
+    requires { ⌜ isWhole (bodyOf recordLimit (length (now mem)) (now body)) ≡ true ⌝ }
+    ensures { λ r. ⌜ now (mem .exit) ≡ placedBody (now (mem .entry)) (bodyOf recordLimit (length (now (mem .entry))) (now (body .entry))) ⌝ }
 {
     let mut at = 0;
     loop {

@@ -1,45 +1,47 @@
 -- The first pass, by the record `Checking`: each turn is a law of PassLaws. The scratch room keeps its length.
 use Prim.Native.Nat.{_-_}
 use native.Mathlib.Omega.{arith}
-use mathlib.Core.Path.{_≡_, refl, sym}
+use mathlib.Core.Path.{_≡_, refl, sym, ap}
 use Rattle.image.specs.Format.{recordLimit}
+use Rattle.image.specs.inner.Pass.{partRead}
 use borrow.Author.Needs.{needs}
 use lib.ListN.{length}
-use Rattle.image.proofs.PassLaws.{Checking, checking, part-whole, reading-on, reading-less, checking-on, checking-tail, checking-broken}
+use Rattle.image.proofs.PassLaws.{Checking, checking, part-whole, reading-on, reading-less, checking-on, checking-tail}
+use Rattle.image.proofs.PassLaws.{checking-broken}
 use Rattle.image.proofs.check.check_records.Statement.{statement}
 use Rattle.image.proofs.check.check_records.Tie as tie
 
 abbrev Inv-loop : tie.InvT-loop
-Inv-loop body size scratch₀ at₀ records₀ sum₀ scratch at records sum = (length scratch ≡ recordLimit) × Checking size body at records sum
+Inv-loop body size scratch₀ at₀ records₀ sum₀ scratch at records sum = (length scratch ≡ recordLimit) × Checking recordLimit size body at records sum
 
 abbrev μ-loop : tie.MeasureT-loop
 μ-loop body size scratch₀ at₀ records₀ sum₀ scratch at records sum = length body - at
 
 loop-holds : tie.Need-loop-holds Inv-loop μ-loop
-loop-holds c = (refl, checking _ _)
+loop-holds c = (refl, checking _ _ _)
 
 slice-aggregate-sum-record : tie.Need-slice-aggregate-sum-record Inv-loop μ-loop
 slice-aggregate-sum-record c = sym (c .before .before .before .before .before .before .before .loop .inv .0)
 
 sum-record-requires : tie.Need-sum-record-requires Inv-loop μ-loop
 sum-record-requires c κs = let i = c .before .before .before .before .before .before .before .loop .inv in
-    let s = part-whole (i .1 .here) (c .before .before .before .before .before .read-part .ensures) (c .before .before .before .part .given .1) in
+    let s = part-whole (i .1 .here) (c .before .before .before .before .before .read-part .ensures) (ap partRead (c .before .before .before .part .given .1)) in
     (s .complete, s .few, omega (arith, i .0))
 
 add-at-2 : tie.Need-add-at-2 Inv-loop μ-loop
-add-at-2 c = omega (arith, reading-on (c .before .before .before .before .before .before .before .before .before .before .loop .inv .1 .here) (c .before .before .before .before .before .before .before .before .read-part .ensures) (c .before .before .before .before .before .before .part .given .1) .within)
+add-at-2 c = omega (arith, reading-on (c .before .before .before .before .before .before .before .before .before .before .loop .inv .1 .here) (c .before .before .before .before .before .before .before .before .read-part .ensures) (ap partRead (c .before .before .before .before .before .before .part .given .1)) .within)
 
 loop-less : tie.Need-loop-less Inv-loop μ-loop
-loop-less c = reading-less (c .before .before .before .before .before .before .before .before .before .before .loop .inv .1 .here) (c .before .before .before .before .before .before .before .before .read-part .ensures) (c .before .before .before .before .before .before .part .given .1)
+loop-less c = reading-less (c .before .before .before .before .before .before .before .before .before .before .loop .inv .1 .here) (c .before .before .before .before .before .before .before .before .read-part .ensures) (ap partRead (c .before .before .before .before .before .before .part .given .1))
 
 loop-again : tie.Need-loop-again Inv-loop μ-loop
-loop-again c = (c .before .scratch2 .given, checking-on (c .before .before .before .before .before .before .before .before .before .before .loop .inv .1) (c .before .before .before .before .before .before .before .before .read-part .ensures) (c .before .before .before .before .before .before .part .given .1) (c .before .before .sum-record .ensures) (c .wrapping-add .ensures))
+loop-again c = (c .before .scratch2 .given, checking-on (c .before .before .before .before .before .before .before .before .before .before .loop .inv .1) (c .before .before .before .before .before .before .before .before .read-part .ensures) (ap partRead (c .before .before .before .before .before .before .part .given .1)) (c .before .before .sum-record .ensures) (c .wrapping-add .ensures))
 
 returns : tie.Need-returns Inv-loop μ-loop
-returns c = checking-tail (c .before .before .before .before .before .loop .inv .1) (c .before .before .before .read-part .ensures) (c .before .part2 .given .1)
+returns c = checking-tail (c .before .before .before .before .before .loop .inv .1) (c .before .before .before .read-part .ensures) (ap partRead (c .before .part2 .given .1))
 
 returns-2 : tie.Need-returns-2 Inv-loop μ-loop
-returns-2 c = checking-broken (c .before .before .before .before .before .loop .inv .1) (c .before .before .before .read-part .ensures) (c .before .part3 .given .1)
+returns-2 c = checking-broken (c .before .before .before .before .before .loop .inv .1) (c .before .before .before .read-part .ensures) (ap partRead (c .before .part3 .given .1))
 
 pub check-records-spec : {M : Type 1} → statement M
 check-records-spec =

@@ -1,0 +1,29 @@
+-- A region's words, and the records that they are cut into: "full records of 1,024, the last perhaps shorter", with the limit a parameter.
+use Prim.Native.Nat.{ℕ, zero, suc, _+_, _-_, _/_}
+use mathlib.Core.Bool.{cond}
+use mathlib.Core.List.{List, [], _∷_}
+use lib.Dec.{eqb}
+use lib.ListN.{length, take, drop}
+use Rattle.records.specs.Records.{Record, recordOver}
+
+-- how many words there are from first to last, both included, and the words
+abbrev pub spanOf : ℕ → ℕ → ℕ
+spanOf first last = last + 1 - first
+
+abbrev pub wordsBetween : List ℕ → ℕ → ℕ → List ℕ
+wordsBetween m first last = take (spanOf first last) (drop first m)
+
+-- the words ws from address a on, cut into records of `limit` words, the last perhaps shorter: each begins where the one before it
+-- ends. By at most n records, of a word or more each; `CutLaws.equation` says the same without n.
+abbrev pub cutFrom : ℕ → ℕ → ℕ → List ℕ → List Record
+cutFrom zero limit a ws = []
+cutFrom (suc n) limit a ws =
+    cond (eqb (length ws) 0) []
+    (recordOver a (take limit ws) ∷ cutFrom n limit (a + length (take limit ws)) (drop limit ws))
+
+unfoldable pub cutOf : ℕ → ℕ → List ℕ → List Record
+cutOf limit a ws = cutFrom (length ws) limit a ws
+
+-- how many records n words make
+abbrev pub recordCount : ℕ → ℕ → ℕ
+recordCount limit n = (n + (limit - 1)) / limit
