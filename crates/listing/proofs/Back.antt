@@ -1,5 +1,6 @@
 -- A line is read back from its text.
 use Prim.Native.Nat.{ℕ, _+_, _*_, _/_, _%_, _<_}
+use Prim.Native.Char.{code}
 use mathlib.Core.Path.{_≡_, refl, sym, ap, _∙_}
 use mathlib.Core.Bool.{Bool, true, false, cond, _&&_}
 use mathlib.Core.List.{List, [], _∷_, map}
@@ -7,12 +8,13 @@ use native.Mathlib.Omega.{arith}
 use lib.Dec.{T, eqb, ltb, eqb→eq, lit<}
 use borrow.Author.Tests.{eqb-true, ne-eqb}
 use Rattle.word.proofs.Choice.{cond-both}
-use Rattle.listing.specs.Rows.{templateOf}
+use Rattle.listing.specs.Text.{codes, digitOf}
+use Rattle.listing.specs.inner.Rows.{firstLetter, templateOf}
+use Rattle.listing.specs.inner.Line.{lineWith, fieldOf, glyphOf, textOf}
+use Rattle.listing.specs.inner.Encode.{valueOf, signValue, withSymbol, readIn, lineRead}
 use Rattle.listing.specs.declared.line.Line.{Line}
-use Rattle.listing.specs.Line.{lineWith, digitOf, fieldOf, glyphOf, textOf}
-use Rattle.listing.specs.Assemble.{valueOf, signValue, withSymbol, readIn, lineRead}
 use Rattle.listing.proofs.Tests.{below-at, both-left, both-right}
-use Rattle.listing.proofs.Table.{hexes, occurs, template-hexes}
+use Rattle.listing.proofs.Table.{hexes, showsOperand, template-hexes}
 
 abbrev digit-back : ℕ → Bool
 digit-back v = eqb (valueOf (digitOf v)) v
@@ -23,12 +25,12 @@ value-digit v h = eqb→eq (valueOf (digitOf v)) v (below-at digit-back 16 tt v 
 
 pub value-16 : (c : ℕ) → valueOf c < 16
 unfolding valueOf
-value-16 c = cond-both (λ n. n < 16) (ltb c 65) (omega arith) (omega arith)
+value-16 c = cond-both (λ n. n < 16) (ltb c (code "A")) (omega arith) (omega arith)
 
 -- the row stays, and the operand is a word
 taken-row : (l : Line) (h c : ℕ) → withSymbol l h c .row ≡ l .row
 unfolding withSymbol
-taken-row l h c = go (ltb h 97) (eqb h 115) (eqb h 100) (eqb h 103)
+taken-row l h c = go (ltb h firstLetter) (eqb h (code "s")) (eqb h (code "d")) (eqb h (code "g"))
   where
     P : Line → Type 0
     P x = x .row ≡ l .row
@@ -40,8 +42,8 @@ taken-16 : (l : Line) (h c : ℕ) → l .operand < 65536 → withSymbol l h c .o
 unfolding withSymbol
 taken-16 l h c k =
     let P : Line → Type 0 = λ x. x .operand < 65536 in
-    cond-both P (ltb h 97) k
-    (cond-both P (eqb h 115) k (cond-both P (eqb h 100) k (cond-both P (eqb h 103) k (omega (arith, value-16 c)))))
+    cond-both P (ltb h firstLetter) k
+    (cond-both P (eqb h (code "s")) k (cond-both P (eqb h (code "d")) k (cond-both P (eqb h (code "g")) k (omega (arith, value-16 c)))))
 
 in-row : (t text : List ℕ) (l : Line) → readIn t text l .row ≡ l .row
 in-row [] text l = refl
@@ -65,25 +67,25 @@ read-16 r text = in-16 (templateOf r) text (lineWith r 0 0 0) (lit< tt)
 module _ (r s d x y : ℕ) where
   step-s : (h : ℕ) (f g : Line) → f .s ≡ g .s → withSymbol f h (glyphOf (lineWith r s d x) h) .s ≡ withSymbol g h (glyphOf (lineWith r s d y) h) .s
   unfolding withSymbol glyphOf fieldOf
-  step-s h f g p = go (ltb h 97) refl (eqb h 115) refl (eqb h 100) refl (eqb h 103) refl
+  step-s h f g p = go (ltb h firstLetter) refl (eqb h (code "s")) refl (eqb h (code "d")) refl (eqb h (code "g")) refl
     where
-      go : (a : Bool) → ltb h 97 ≡ a → (b : Bool) → eqb h 115 ≡ b → (c : Bool) → eqb h 100 ≡ c → (e : Bool) → eqb h 103 ≡ e
+      go : (a : Bool) → ltb h firstLetter ≡ a → (b : Bool) → eqb h (code "s") ≡ b → (c : Bool) → eqb h (code "d") ≡ c → (e : Bool) → eqb h (code "g") ≡ e
           → withSymbol f h (glyphOf (lineWith r s d x) h) .s ≡ withSymbol g h (glyphOf (lineWith r s d y) h) .s
       go true i b j c k e l = rw i p
-      go false i true j c k e l = let n : h ≡ 115 = eqb-true h 115 j in rw (i, j, ne-eqb h 103 (λ z. omega arith))
+      go false i true j c k e l = let n : h ≡ code "s" = eqb-true h (code "s") j in rw (i, j, ne-eqb h (code "g") (λ z. omega arith))
       go false i false j true k e l = rw (i, j, k) p
       go false i false j false k true l = rw (i, j, k, l)
       go false i false j false k false l = rw (i, j, k, l) p
 
   step-d : (h : ℕ) (f g : Line) → f .d ≡ g .d → withSymbol f h (glyphOf (lineWith r s d x) h) .d ≡ withSymbol g h (glyphOf (lineWith r s d y) h) .d
   unfolding withSymbol glyphOf fieldOf
-  step-d h f g p = go (ltb h 97) refl (eqb h 115) refl (eqb h 100) refl (eqb h 103) refl
+  step-d h f g p = go (ltb h firstLetter) refl (eqb h (code "s")) refl (eqb h (code "d")) refl (eqb h (code "g")) refl
     where
-      go : (a : Bool) → ltb h 97 ≡ a → (b : Bool) → eqb h 115 ≡ b → (c : Bool) → eqb h 100 ≡ c → (e : Bool) → eqb h 103 ≡ e
+      go : (a : Bool) → ltb h firstLetter ≡ a → (b : Bool) → eqb h (code "s") ≡ b → (c : Bool) → eqb h (code "d") ≡ c → (e : Bool) → eqb h (code "g") ≡ e
           → withSymbol f h (glyphOf (lineWith r s d x) h) .d ≡ withSymbol g h (glyphOf (lineWith r s d y) h) .d
       go true i b j c k e l = rw i p
       go false i true j c k e l = rw (i, j) p
-      go false i false j true k e l = let n : h ≡ 100 = eqb-true h 100 k in rw (i, j, k, ne-eqb h 103 (λ z. omega arith))
+      go false i false j true k e l = let n : h ≡ code "d" = eqb-true h (code "d") k in rw (i, j, k, ne-eqb h (code "g") (λ z. omega arith))
       go false i false j false k true l = rw (i, j, k, l) p
       go false i false j false k false l = rw (i, j, k, l) p
 
@@ -102,9 +104,9 @@ digitsIn l (h ∷ t) x = digitsIn l t (x % 4096 * 16 + valueOf (glyphOf l h))
 
 hex-step : (l : Line) (h : ℕ) (t : List ℕ) (f : Line) → digitsIn l (hexes t) (withSymbol f h (glyphOf l h) .operand) ≡ digitsIn l (hexes (h ∷ t)) (f .operand)
 unfolding withSymbol
-hex-step l h t f = go (ltb h 97) refl (eqb h 115) refl (eqb h 100) refl (eqb h 103) refl
+hex-step l h t f = go (ltb h firstLetter) refl (eqb h (code "s")) refl (eqb h (code "d")) refl (eqb h (code "g")) refl
   where
-    go : (a : Bool) → ltb h 97 ≡ a → (b : Bool) → eqb h 115 ≡ b → (c : Bool) → eqb h 100 ≡ c → (e : Bool) → eqb h 103 ≡ e
+    go : (a : Bool) → ltb h firstLetter ≡ a → (b : Bool) → eqb h (code "s") ≡ b → (c : Bool) → eqb h (code "d") ≡ c → (e : Bool) → eqb h (code "g") ≡ e
         → digitsIn l (hexes t) (withSymbol f h (glyphOf l h) .operand) ≡ digitsIn l (hexes (h ∷ t)) (f .operand)
     go true i b j c k e m = rw i
     go false i true j c k e m = rw (i, j)
@@ -125,7 +127,7 @@ digits x h =
     let e₄ : x / 16 % 4096 * 16 + x % 16 ≡ x = omega arith in
     rw (e₁, e₂, e₃, e₄)
 
-four : (l : Line) → l .operand < 65536 → digitsIn l (119 ∷ 120 ∷ 121 ∷ 122 ∷ []) 0 ≡ l .operand
+four : (l : Line) → l .operand < 65536 → digitsIn l (codes "wxyz") 0 ≡ l .operand
 unfolding glyphOf fieldOf
 four l h =
     rw (
@@ -136,7 +138,7 @@ four l h =
     )
     (digits (l .operand) h)
 
-shown : (l : Line) (b : Bool) → l .operand < 65536 → (b ≡ false → l .operand ≡ 0) → digitsIn l (cond b (119 ∷ 120 ∷ 121 ∷ 122 ∷ []) []) 0 ≡ l .operand
+shown : (l : Line) (b : Bool) → l .operand < 65536 → (b ≡ false → l .operand ≡ 0) → digitsIn l (cond b (codes "wxyz") []) 0 ≡ l .operand
 shown l true h z = four l h
 shown l false h z = sym (z refl)
 
@@ -144,7 +146,7 @@ shown l false h z = sym (z refl)
 abbrev pub backs : ℕ → ℕ → ℕ → Bool
 backs r s d = eqb (lineRead r (textOf (lineWith r s d 0)) .s) s && eqb (lineRead r (textOf (lineWith r s d 0)) .d) d
 
-module _ (r s d x : ℕ) (h : r < 86) (back : T (backs r s d)) (word : x < 65536) (none : occurs 119 (templateOf r) ≡ false → x ≡ 0) where
+module _ (r s d x : ℕ) (h : r < 86) (back : T (backs r s d)) (word : x < 65536) (none : showsOperand (templateOf r) ≡ false → x ≡ 0) where
   back-s : lineRead r (textOf (lineWith r s d x)) .s ≡ s
   unfolding lineRead textOf
   back-s =
@@ -162,7 +164,7 @@ module _ (r s d x : ℕ) (h : r < 86) (back : T (backs r s d)) (word : x < 65536
   back-x =
       reads-x (lineWith r s d x) (templateOf r) (lineWith r 0 0 0)
       ∙ ap (λ (t : List ℕ). digitsIn (lineWith r s d x) t 0) (template-hexes r h)
-      ∙ shown (lineWith r s d x) (occurs 119 (templateOf r)) word none
+      ∙ shown (lineWith r s d x) (showsOperand (templateOf r)) word none
 
   pub read-back : lineRead r (textOf (lineWith r s d x)) ≡ lineWith r s d x
   read-back =

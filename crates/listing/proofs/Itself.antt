@@ -1,6 +1,6 @@
 -- (b) of `specs/Laws`: an assembled line lists as itself.
 use Prim.Native.Nat.{ℕ, _+_, _%_, _<_, _≤_}
-use mathlib.Core.Path.{_≡_, refl, sym, ap, _∙_}
+use mathlib.Core.Path.{_≡_, sym, ap, _∙_}
 use mathlib.Core.Bool.{Bool, true}
 use mathlib.Core.List.{List}
 use native.Mathlib.Omega.{arith}
@@ -9,28 +9,27 @@ use lib.ListN.{length, getD}
 use Rattle.word.specs.Word.{wrapAdd}
 use Rattle.memory.specs.Bus.{busOf, readOf}
 use Rattle.decode.specs.Fields.{opcodeOf}
-use Rattle.listing.specs.declared.entry.Entry.{Entry}
-use Rattle.listing.specs.Rows.{codes, rows, templateOf}
-use Rattle.listing.specs.Line.{lineWith, glyphOf, textOf}
-use Rattle.listing.specs.Answer.{assembled}
+use Rattle.listing.specs.declared.entry.RowEntry.{RowEntry}
+use Rattle.refusal.specs.Report.{answered}
+use Rattle.listing.specs.Text.{codes}
 use Rattle.listing.specs.Disassemble.{entryAt, textAt}
 use Rattle.listing.specs.Assemble.{assembleOf}
-use Rattle.listing.specs.Laws.{Stand, AssembledListsAsItself}
+use Rattle.listing.specs.Laws.{Stand, WordsOf, AssembledListsAsItself}
+use Rattle.listing.specs.inner.Line.{textOf}
+use Rattle.listing.specs.inner.Entry.{rowEntryAt}
+use Rattle.listing.proofs.Entries.{entry-words}
 use Rattle.listing.proofs.EntryWith.{entryWith, cutWith, entry-with, cut-with}
+use Rattle.listing.proofs.Spelling.{decle, text-is}
 use Rattle.listing.proofs.Trip.{Agree, cut-length, agree-entry}
-use Rattle.listing.proofs.RoundTrip.{Found, found, cut-first}
-
--- the line of row 85
-decle : textOf (lineWith 85 0 0 0) ≡ codes "DECLE $0004"
-unfolding textOf glyphOf templateOf rows
-decle = refl
+use Rattle.listing.proofs.Accept.{found}
+use Rattle.listing.proofs.RoundTrip.{cut-first}
 
 is-decle : (w a b : ℕ) (double : Bool) → eqb w 4 ≡ true → eqb (a % 4) 3 ≡ true → textOf (entryWith w a b double .line) ≡ codes "DECLE $0004"
 unfolding entryWith
 is-decle w a b double e f = rw (e, f) decle
 
-module _ (text : List ℕ) (double : Bool) (ws : List ℕ) (e : assembleOf text double ≡ assembled ws) (other : text ≡ codes "DECLE $0004" → ⊥) where
-  abbrev from : Found text double ws
+module _ (text : List ℕ) (double : Bool) (ws : List ℕ) (e : assembleOf text double ≡ answered ws) (other : text ≡ codes "DECLE $0004" → ⊥) where
+  abbrev from : WordsOf text double ws
   from = found text double ws e
 
   abbrev w : ℕ
@@ -42,14 +41,15 @@ module _ (text : List ℕ) (double : Bool) (ws : List ℕ) (e : assembleOf text 
   abbrev b : ℕ
   b = readOf (busOf (from .memory)) (wrapAdd 0 2)
 
-  listed : entryAt (readOf (busOf (from .memory))) 0 double ≡ entryWith w a b double
+  listed : rowEntryAt (readOf (busOf (from .memory))) 0 double ≡ entryWith w a b double
   listed = entry-with (readOf (busOf (from .memory))) 0 double
 
   its-text : textOf (entryWith w a b double .line) ≡ text
-  its-text = ap (λ (x : Entry). textOf (x .line)) (sym listed) ∙ from .line
+  its-text =
+      ap (λ (x : RowEntry). textOf (x .line)) (sym listed) ∙ text-is (readOf (busOf (from .memory))) 0 double ∙ from .lists
 
   its-words : ws ≡ cutWith w a b double
-  its-words = from .cut ∙ cut-with (readOf (busOf (from .memory))) 0 double
+  its-words = sym (from .cut) ∙ cut-with (readOf (busOf (from .memory))) 0 double
 
   count : length ws ≡ entryWith w a b double .words
   count = ap length its-words ∙ cut-length w a b double (omega arith) .1
@@ -76,7 +76,7 @@ module _ (text : List ℕ) (double : Bool) (ws : List ℕ) (e : assembleOf text 
           third = λ h. stand 2 (omega arith) ∙ ap (λ (x : List ℕ). getD x 2 0) its-words;
         }
 
-    there : entryAt read at double ≡ entryWith w a b double
+    there : rowEntryAt read at double ≡ entryWith w a b double
     there =
         entry-with read at double
         ∙ ap (λ (x : ℕ). entryWith x (read (wrapAdd at 1)) (read (wrapAdd at 2)) double) at-opcode
@@ -85,7 +85,7 @@ module _ (text : List ℕ) (double : Bool) (ws : List ℕ) (e : assembleOf text 
 
     lists : (textAt read at double ≡ text) × (entryAt read at double .words ≡ length ws)
     lists =
-        (ap (λ (x : Entry). textOf (x .line)) there ∙ its-text, ap (λ (x : Entry). x .words) there ∙ sym count)
+        (sym (text-is read at double) ∙ ap (λ (x : RowEntry). textOf (x .line)) there ∙ its-text, entry-words read at double ∙ ap (λ (x : RowEntry). x .words) there ∙ sym count)
 
 pub assembled-lists-as-itself : AssembledListsAsItself
 assembled-lists-as-itself text double ws e other read at low stand = lists text double ws e other read at low stand

@@ -8,13 +8,15 @@ use lib.Dec.{T, eqb, leb, eqb→eq}
 use borrow.Author.Tests.{eqb-true, eqb-false, lt-ltb, le-ltb, le-leb}
 use Rattle.word.proofs.Choice.{cond-either}
 use Rattle.decode.specs.Fields.{jumpTarget}
-use Rattle.listing.specs.Rows.{rows, templateOf, baseOf}
+use Rattle.listing.specs.Text.{digitOf}
+use Rattle.listing.specs.Cut.{cutWords}
+use Rattle.listing.specs.inner.Rows.{rows, templateOf, baseOf}
+use Rattle.listing.specs.inner.Line.{lineWith, signOf, fieldOf, glyphOf, textOf}
+use Rattle.listing.specs.inner.Entry.{jumpLine}
+use Rattle.listing.specs.inner.Encode.{valueOf, withSymbol, lineRead, jumpWord, jumpWords, encoded}
 use Rattle.listing.specs.declared.line.Line.{Line}
-use Rattle.listing.specs.Line.{lineWith, digitOf, signOf, fieldOf, glyphOf, textOf}
-use Rattle.listing.specs.Disassemble.{jumpLine}
-use Rattle.listing.specs.Assemble.{valueOf, withSymbol, lineRead, jumpWord, jumpWords, encoded, cutWords}
 use Rattle.listing.proofs.Tests.{truth, below, below-at, both-left, both-right, imp, imp-at, clash}
-use Rattle.listing.proofs.Table.{occurs}
+use Rattle.listing.proofs.Table.{showsOperand}
 use Rattle.listing.proofs.Entries.{jump-line}
 use Rattle.listing.proofs.Back.{backs, read-back}
 use Rattle.listing.proofs.EntryWith.{entryWith, cutWith, Trip}
@@ -23,16 +25,16 @@ use Rattle.listing.proofs.EntryWith.{entryWith, cutWith, Trip}
 abbrev jump-row : ℕ → Bool
 jump-row r = imp (leb 79 r) (eqb (baseOf r) 4)
 
-jump-base : (r : ℕ) → 79 ≤ r → r < 86 → baseOf r ≡ 4
+pub jump-base : (r : ℕ) → 79 ≤ r → r < 86 → baseOf r ≡ 4
 unfolding baseOf rows
 jump-base r k h = eqb→eq (baseOf r) 4 (imp-at (leb 79 r) (eqb (baseOf r) 4) (below-at jump-row 86 tt r h) (le-leb 79 r k))
 
 -- J JE JD; then JSR JSRE JSRD with R4, R5, R6, numbered by k
 abbrev goes-back : ℕ → Bool
-goes-back e = backs (79 + e) 0 0 && occurs 119 (templateOf (79 + e))
+goes-back e = backs (79 + e) 0 0 && showsOperand (templateOf (79 + e))
 
 abbrev calls-back : ℕ → Bool
-calls-back k = backs (82 + k / 4) 0 (k % 4 + 4) && occurs 119 (templateOf (82 + k / 4))
+calls-back k = backs (82 + k / 4) 0 (k % 4 + 4) && showsOperand (templateOf (82 + k / 4))
 
 goes-test : T (below goes-back 3)
 unfolding lineRead withSymbol valueOf textOf glyphOf fieldOf digitOf signOf templateOf rows
@@ -45,16 +47,16 @@ calls-test = tt
 goes : (e x : ℕ) → e < 3 → x < 65536 → lineRead (79 + e) (textOf (lineWith (79 + e) 0 0 x)) ≡ lineWith (79 + e) 0 0 x
 goes e x h k =
     let t = below-at goes-back 3 goes-test e h in
-    read-back (79 + e) 0 0 x (omega arith) (both-left (backs (79 + e) 0 0) (occurs 119 (templateOf (79 + e))) t) k
-    (λ f. clash (truth (occurs 119 (templateOf (79 + e))) (both-right (backs (79 + e) 0 0) (occurs 119 (templateOf (79 + e))) t)) f)
+    read-back (79 + e) 0 0 x (omega arith) (both-left (backs (79 + e) 0 0) (showsOperand (templateOf (79 + e))) t) k
+    (λ f. clash (truth (showsOperand (templateOf (79 + e))) (both-right (backs (79 + e) 0 0) (showsOperand (templateOf (79 + e))) t)) f)
 
 calls : (e r x : ℕ) → e < 3 → r < 4 → x < 65536 → lineRead (82 + e) (textOf (lineWith (82 + e) 0 (r + 4) x)) ≡ lineWith (82 + e) 0 (r + 4) x
 calls e r x h l k =
     let i : (e * 4 + r) / 4 ≡ e = omega arith in
     let j : (e * 4 + r) % 4 ≡ r = omega arith in
-    let t : T (backs (82 + e) 0 (r + 4) && occurs 119 (templateOf (82 + e))) = rw (i, j) at (below-at calls-back 12 calls-test (e * 4 + r) (omega arith)) in
-    read-back (82 + e) 0 (r + 4) x (omega arith) (both-left (backs (82 + e) 0 (r + 4)) (occurs 119 (templateOf (82 + e))) t) k
-    (λ f. clash (truth (occurs 119 (templateOf (82 + e))) (both-right (backs (82 + e) 0 (r + 4)) (occurs 119 (templateOf (82 + e))) t)) f)
+    let t : T (backs (82 + e) 0 (r + 4) && showsOperand (templateOf (82 + e))) = rw (i, j) at (below-at calls-back 12 calls-test (e * 4 + r) (omega arith)) in
+    read-back (82 + e) 0 (r + 4) x (omega arith) (both-left (backs (82 + e) 0 (r + 4)) (showsOperand (templateOf (82 + e))) t) k
+    (λ f. clash (truth (showsOperand (templateOf (82 + e))) (both-right (backs (82 + e) 0 (r + 4)) (showsOperand (templateOf (82 + e))) t)) f)
 
 none : lineRead 85 (textOf (lineWith 85 0 0 0)) ≡ lineWith 85 0 0 0
 unfolding lineRead withSymbol textOf glyphOf templateOf rows
@@ -123,7 +125,7 @@ module _ (a b : ℕ) (double : Bool) where
           m,
         )
 
-    jump-words : encoded (jumpLine a b) double ≡ 4 ∷ a % 1024 ∷ b % 1024 ∷ []
+    pub jump-words : encoded (jumpLine a b) double ≡ 4 ∷ a % 1024 ∷ b % 1024 ∷ []
     jump-words =
         rw (jump-line a b)
         (cond-either (λ (l : Line). encoded l double ≡ 4 ∷ a % 1024 ∷ b % 1024 ∷ []) (eqb (a / 256 % 4) 3) away-words call-words)

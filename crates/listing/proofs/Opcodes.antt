@@ -11,17 +11,18 @@ use Rattle.decode.specs.declared.Instr.the-variants.{Hlt, Control, Jump, Single
 use Rattle.decode.specs.Fields.{isExternal, inputNumber}
 use Rattle.decode.specs.Decode.{controlInstruction, statusInstruction, lowInstruction, instructionOf, isUnspecified, decodeAt}
 use Rattle.decode.specs.Rows.{interruptibleEntry, plainEntry, haltEntry, controlEntry, jumpEntry, registerEntry, shiftEntry, branchEntry, memoryWords, storeEntry, readWords, readEntry, rowOf}
-use Rattle.listing.specs.Rows.{rows, templateOf, baseOf}
+use Rattle.listing.specs.Text.{digitOf}
+use Rattle.listing.specs.inner.Rows.{rows, templateOf, baseOf}
+use Rattle.listing.specs.inner.Line.{lineWith, signOf, fieldOf, glyphOf, textOf}
+use Rattle.listing.specs.inner.Entry.{controlLine, singleLine, shiftLine, branchSign, branchLine, memoryLine, registerLine, rowLineOf}
+use Rattle.listing.specs.inner.Encode.{valueOf, withSymbol, lineRead, wordCount}
 use Rattle.listing.specs.declared.line.Line.{Line}
-use Rattle.listing.specs.Line.{lineWith, digitOf, signOf, fieldOf, glyphOf, textOf}
-use Rattle.listing.specs.Disassemble.{controlLine, singleLine, shiftLine, branchSign, branchLine, memoryLine, registerLine, lineOf}
-use Rattle.listing.specs.Assemble.{valueOf, withSymbol, lineRead, wordCount}
 use Rattle.listing.proofs.Tests.{below, below-at, both-left, both-right, imp, imp-at, clash}
-use Rattle.listing.proofs.Table.{occurs}
+use Rattle.listing.proofs.Table.{showsOperand}
 use Rattle.listing.proofs.Back.{backs}
 
 -- a jump's opcode is 004 alone
-abbrev isJump : Instr → Bool
+abbrev pub isJump : Instr → Bool
 isJump Hlt = false
 isJump (Control d) = false
 isJump Jump = true
@@ -56,7 +57,7 @@ memory-shape row s d x =
     x refl
     (chosen (eqb s 7) (λ y. lineWith (55 + row % 8 * 3 + 2) 0 d y) (λ y. lineWith (55 + row % 8 * 3 + 1) s d y) x refl refl)
 
-line-shape : (i : Instr) (x a b : ℕ) → isJump i ≡ false → lineOf i x a b ≡ withOperand (lineOf i 0 0 0) x
+line-shape : (i : Instr) (x a b : ℕ) → isJump i ≡ false → rowLineOf i x a b ≡ withOperand (rowLineOf i 0 0 0) x
 unfolding singleLine shiftLine branchLine registerLine withOperand
 line-shape Hlt x a b e = control-shape 0 x
 line-shape (Control d) x a b e = control-shape d x
@@ -75,13 +76,13 @@ line-shape (Read row s d) x a b e = memory-shape row s d x
 
 -- the row and the fields of an opcode
 unfoldable pub shape : ℕ → Line
-shape w = lineOf (instructionOf w) 0 0 0
+shape w = rowLineOf (instructionOf w) 0 0 0
 
 -- How many words an opcode's instruction has, and that they show: one, or two or three with the operand in the line.
 abbrev counts : ℕ → Bool → Bool
 counts w double =
     cond (eqb (rowOf (instructionOf w) double .words) 1) true
-    (occurs 119 (templateOf (shape w .row))
+    (showsOperand (templateOf (shape w .row))
     && (eqb (rowOf (instructionOf w) double .words) 2 || eqb (rowOf (instructionOf w) double .words) 3))
 
 -- The rule of the table, over all opcodes but 004: the row is none of the jump's, the row's number with the fields is the opcode, the
@@ -112,7 +113,7 @@ module _ (w : ℕ) (h : w < 1024) (e : eqb w 4 ≡ false) where
   counted : T (counts w false && counts w true)
   counted = both-right (eqb (baseOf (shape w .row) + shape w .s % 16 * 8 + shape w .d % 16) w && backs (shape w .row) (shape w .s) (shape w .d)) (counts w false && counts w true) (both-right (not (isJump (instructionOf w)) && ltb (shape w .row) 79) _ ruled)
 
-  no-jump : isJump (instructionOf w) ≡ false
+  pub no-jump : isJump (instructionOf w) ≡ false
   no-jump = go (isJump (instructionOf w)) (both-left (not (isJump (instructionOf w))) (ltb (shape w .row) 79) placed)
     where
       go : (b : Bool) → T (not b) → b ≡ false
@@ -137,6 +138,6 @@ module _ (w : ℕ) (h : w < 1024) (e : eqb w 4 ≡ false) where
   unfolding wordCount decodeAt isUnspecified
   count-at double = let m : w % 1024 ≡ w = omega arith in rw (read-within (w ∷ []) 0 (lit< tt), m, e)
 
-  pub plain-line : (x a b : ℕ) → lineOf (instructionOf w) x a b ≡ withOperand (shape w) x
+  pub plain-line : (x a b : ℕ) → rowLineOf (instructionOf w) x a b ≡ withOperand (shape w) x
   unfolding shape
   plain-line x a b = line-shape (instructionOf w) x a b no-jump

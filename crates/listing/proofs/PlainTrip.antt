@@ -10,12 +10,14 @@ use Rattle.word.proofs.Choice.{cond-both}
 use Rattle.decode.specs.Fields.{joined}
 use Rattle.decode.specs.Decode.{instructionOf}
 use Rattle.decode.specs.Rows.{rowOf}
-use Rattle.listing.specs.Rows.{templateOf}
-use Rattle.listing.specs.Line.{textOf}
-use Rattle.listing.specs.Disassemble.{lineOf, lineOperand, entryFor}
-use Rattle.listing.specs.Assemble.{lineRead, plainWords, encoded, firstWords, cutWords}
+use Rattle.listing.specs.Line.{lineOperand}
+use Rattle.listing.specs.Cut.{cutWords}
+use Rattle.listing.specs.inner.Rows.{templateOf}
+use Rattle.listing.specs.inner.Line.{textOf}
+use Rattle.listing.specs.inner.Entry.{rowLineOf, rowEntryFor}
+use Rattle.listing.specs.inner.Encode.{lineRead, plainWords, encoded, firstWords}
 use Rattle.listing.proofs.Tests.{truth, both-left, both-right, clash}
-use Rattle.listing.proofs.Table.{occurs}
+use Rattle.listing.proofs.Table.{showsOperand}
 use Rattle.listing.proofs.Back.{read-back}
 use Rattle.listing.proofs.EntryWith.{entryWith, cutWith, rowEntry, Trip}
 use Rattle.listing.proofs.Opcodes.{count-at, counts-at, fields, opcode, plain-line, row-79, shape, withOperand}
@@ -85,9 +87,9 @@ module _ (w a b : ℕ) (double : Bool) (h : w < 1024) (e : eqb w 4 ≡ false) (k
   x = lineOperand n a b
 
   abbrev shows : Bool
-  shows = occurs 119 (templateOf (shape w .row))
+  shows = showsOperand (templateOf (shape w .row))
 
-  plain-words : encoded (lineOf (instructionOf w) x a b) double ≡ w ∷ second n x ∷ third n x ∷ []
+  plain-words : encoded (rowLineOf (instructionOf w) x a b) double ≡ w ∷ second n x ∷ third n x ∷ []
   unfolding encoded plainWords withOperand
   plain-words =
       rw (
@@ -103,7 +105,7 @@ module _ (w a b : ℕ) (double : Bool) (h : w < 1024) (e : eqb w 4 ≡ false) (k
       go false = refl
 
   plain-again : rowEntry w (second n x) (third n x) double ≡ rowEntry w a b double
-  unfolding entryFor
+  unfolding rowEntryFor
   plain-again =
       rw (
         plain-line w h e (lineOperand n (second n x) (third n x)) (second n x) (third n x),
@@ -111,7 +113,7 @@ module _ (w a b : ℕ) (double : Bool) (h : w < 1024) (e : eqb w 4 ≡ false) (k
         operand-again w a b n shows (counts-at w h e double),
       )
 
-  plain-back : lineRead (lineOf (instructionOf w) x a b .row) (textOf (lineOf (instructionOf w) x a b)) ≡ lineOf (instructionOf w) x a b
+  plain-back : lineRead (rowLineOf (instructionOf w) x a b .row) (textOf (rowLineOf (instructionOf w) x a b)) ≡ rowLineOf (instructionOf w) x a b
   unfolding withOperand
   plain-back =
       rw (plain-line w h e x a b)
@@ -119,7 +121,7 @@ module _ (w a b : ℕ) (double : Bool) (h : w < 1024) (e : eqb w 4 ≡ false) (k
       (λ f. operand-0 n a b shows (counts-at w h e double) f))
 
   pub trip-plain : Trip w a b double
-  unfolding entryWith cutWith cutWords entryFor
+  unfolding entryWith cutWith cutWords rowEntryFor
   trip-plain =
       record {
         p = second n x;

@@ -11,8 +11,9 @@ use Rattle.decode.specs.declared.Decoded.the-variants.{Unspecified, Known}
 use Rattle.decode.specs.Fields.{opcodeOf, fieldS, jumpBits}
 use Rattle.decode.specs.Decode.{controlInstruction, statusInstruction, lowInstruction, instructionOf, isUnspecified, decodeAt}
 use Rattle.decode.specs.Rows.{interruptibleEntry, plainEntry, haltEntry, controlEntry, jumpEntry, registerEntry, shiftEntry, branchEntry, memoryWords, storeEntry, readWords, readEntry, rowOf}
-use Rattle.listing.specs.declared.entry.Entry.{Entry}
-use Rattle.listing.specs.Disassemble.{entryFor, entryAt}
+use Rattle.listing.specs.Text.{hexOf}
+use Rattle.listing.specs.Line.{lineOf, lineOperand}
+use Rattle.listing.specs.Disassemble.{Entry, decleEntry, entryAt}
 use Rattle.listing.specs.Laws.{EveryRowFollows}
 use Rattle.listing.proofs.Tests.{below, below-at, both-left, both-right, imp, imp-at}
 
@@ -55,12 +56,12 @@ module _ (read : ℕ → ℕ) (at : ℕ) where
       go false b s false e k = e
 
   entry-of : (double : Bool) (i : Instr) → decodeAt read at false ≡ Known i → Follows (entryAt read at double) i double
-  unfolding entryAt entryFor Follows
+  unfolding entryAt Follows
   entry-of double i e = rw e (refl, refl)
 
-  jump-entry : (double : Bool) → w ≡ 4 → jumpBits (read (wrapAdd at 1)) ≡ 3 → (entryAt read at double .words ≡ 1) × (entryAt read at double .double ≡ false)
+  jump-entry : (double : Bool) → w ≡ 4 → jumpBits (read (wrapAdd at 1)) ≡ 3 → entryAt read at double ≡ decleEntry
   unfolding entryAt
-  jump-entry double e f = rw (decoded false, eq-eqb w 4 e, eq-eqb (jumpBits (read (wrapAdd at 1))) 3 f) (refl, refl)
+  jump-entry double e f = rw (decoded false, eq-eqb w 4 e, eq-eqb (jumpBits (read (wrapAdd at 1))) 3 f)
 
   -- only a stack read is unspecified under D and known without it
   is-stacked : (double : Bool) (i : Instr) → decodeAt read at double ≡ Unspecified → decodeAt read at false ≡ Known i → (double ≡ true) × (stacked ≡ true)
@@ -105,14 +106,19 @@ stack-alike w h e =
           (both-right (eqb (rowOf (instructionOf w) true .words) (rowOf (instructionOf w) false .words)) (same-bool (rowOf (instructionOf w) true .double) (rowOf (instructionOf w) false .double)) t),
     )
 
-stack-entry : (read : ℕ → ℕ) (at : ℕ) (double : Bool) (i : Instr) → decodeAt read at double ≡ Unspecified → decodeAt read at false ≡ Known i → Follows (entryAt read at double) i false
-unfolding Follows
+stack-entry : (read : ℕ → ℕ) (at : ℕ) (double : Bool) (i : Instr) → decodeAt read at double ≡ Unspecified → decodeAt read at false ≡ Known i
+    → entryAt read at double ≡ entryAt read at false
+unfolding entryAt
 stack-entry read at double i e f =
     let p = is-stacked read at double i e f in
-    let a = entry-of read at double i f in
     let s = stack-alike (opcodeOf (read at)) (omega arith) (p .1) in
     let k = is-known read at false i f in
-    (a .0 ∙ rw (p .0, k) (s .0), a .1 ∙ rw (p .0, k) (s .1))
+    let a = read (wrapAdd at 1) in
+    let b = read (wrapAdd at 2) in
+    let words : rowOf i true .words ≡ rowOf i false .words = rw k (s .0) in
+    let next : rowOf i true .double ≡ rowOf i false .double = rw k (s .1) in
+    rw (p .0, f)
+    (λ j. record { text = lineOf i (hexOf (lineOperand (words j) a b)) a b; words = words j; double = next j })
 
 pub every-row-follows : EveryRowFollows
 unfolding Follows

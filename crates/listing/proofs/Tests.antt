@@ -1,14 +1,14 @@
 -- Tests that are computed at every number below a bound, and what they show at each.
-use Prim.Native.Nat.{ℕ, zero, suc, _<_}
-use mathlib.Core.Path.{_≡_, refl, subst}
-use mathlib.Core.Bool.{Bool, true, false, _&&_}
+use Prim.Native.Nat.{ℕ, zero, suc, _<_, _≤_}
+use mathlib.Core.Path.{_≡_, refl, sym, subst}
+use mathlib.Core.Bool.{Bool, true, false, not, _&&_}
 use mathlib.Core.List.{List, [], _∷_}
 use native.Mathlib.Nat.{not-suc-le-zero}
 use native.Mathlib.Decide.{decLt}
 use native.Mathlib.Omega.{arith}
 use lib.Dec.{T, eqb}
 use borrow.Author.Tests.{eq-eqb, eqb-true}
-use Rattle.listing.specs.Line.{sameText}
+use Rattle.listing.specs.Text.{sameText}
 
 pub truth : (b : Bool) → T b → b ≡ true
 truth true t = refl
@@ -44,9 +44,26 @@ pub imp-at : (a b : Bool) → T (imp a b) → a ≡ true → T b
 imp-at true b t e = t
 imp-at false b t e = let z : _≡_ {A = ℕ} 0 1 = cc in absurd (omega arith)
 
+-- a number is none of those below n, as the last arm of a `match` knows it
+abbrev pub Apart : ℕ → ℕ → Type 0
+Apart x zero = T true
+Apart x (suc n) = Apart x n × (x ≡ n → ⊥)
+
+pub past : (x n : ℕ) → Apart x n → n ≤ x
+past x zero p = omega arith
+past x (suc n) p = let k = past x n (p .0) in let other = p .1 in omega arith
+
 -- a flag has one value
 pub clash : {A : Type 0} {b : Bool} → b ≡ true → b ≡ false → A
 clash e f = let z : _≡_ {A = ℕ} 0 1 = cc in absurd (omega arith)
+
+pub not-true : (b : Bool) → not b ≡ true → b ≡ false
+not-true true e = sym e
+not-true false e = refl
+
+pub not-false : (b : Bool) → not b ≡ false → b ≡ true
+not-false true e = refl
+not-false false e = sym e
 
 pub and-left : (a b : Bool) → (a && b) ≡ true → a ≡ true
 and-left true b e = refl

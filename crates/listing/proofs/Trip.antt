@@ -10,10 +10,12 @@ use borrow.Author.Tests.{eqb-true}
 use Rattle.decode.specs.Fields.{joined}
 use Rattle.decode.specs.Decode.{instructionOf}
 use Rattle.decode.specs.Rows.{rowOf}
-use Rattle.listing.specs.Rows.{templateOf}
-use Rattle.listing.specs.Disassemble.{lineOperand, entryFor}
-use Rattle.listing.specs.Assemble.{firstWords, cutWords}
-use Rattle.listing.proofs.Table.{occurs}
+use Rattle.listing.specs.Line.{lineOperand}
+use Rattle.listing.specs.Cut.{cutWords}
+use Rattle.listing.specs.inner.Encode.{firstWords}
+use Rattle.listing.specs.inner.Rows.{templateOf}
+use Rattle.listing.specs.inner.Entry.{rowEntryFor}
+use Rattle.listing.proofs.Table.{showsOperand}
 use Rattle.listing.proofs.EntryWith.{entryWith, cutWith, Trip}
 use Rattle.listing.proofs.JumpTrip.{jump-again, trip-jump, trip-none}
 use Rattle.listing.proofs.Opcodes.{counts-at, plain-line, shape}
@@ -62,22 +64,22 @@ agree-jump w a b double p q e f = rw e (λ s. agree-4 a b double p q f s)
 
 agree-plain : (w a b : ℕ) (double : Bool) → w < 1024 → eqb w 4 ≡ false → (p q : ℕ) → Agree (entryWith w a b double .words) p q (cutWith w a b double)
     → entryWith w p q double ≡ entryWith w a b double
-unfolding entryWith cutWith cutWords entryFor
+unfolding entryWith cutWith cutWords rowEntryFor
 agree-plain w a b double h e p q s =
     let n = rowOf (instructionOf w) double .words in
     let t : Agree n p q (firstWords (plain-cut n w a b) n) = rw e at s in
     rw e
-    (rw (plain-line w h e (lineOperand n p q) p q, plain-line w h e (lineOperand n a b) a b, same-operand w a b p q n (occurs 119 (templateOf (shape w .row))) (counts-at w h e double) t))
+    (rw (plain-line w h e (lineOperand n p q) p q, plain-line w h e (lineOperand n a b) a b, same-operand w a b p q n (showsOperand (templateOf (shape w .row))) (counts-at w h e double) t))
 
 module _ (w a b : ℕ) (double : Bool) (h : w < 1024) where
   pub cut-length : (1 ≤ entryWith w a b double .words) × (length (cutWith w a b double) ≡ entryWith w a b double .words)
-  unfolding cutWith entryWith entryFor
+  unfolding cutWith entryWith rowEntryFor
   cut-length = go (eqb w 4) refl (eqb (a % 4) 3) refl
     where
       go : (i : Bool) → eqb w 4 ≡ i → (j : Bool) → eqb (a % 4) 3 ≡ j → (1 ≤ entryWith w a b double .words) × (length (cutWith w a b double) ≡ entryWith w a b double .words)
       go true e true f = rw (e, f) (lit≤ tt, refl)
       go true e false f = rw (e, f) (lit≤ tt, refl)
-      go false e j f = rw e (count-length (cutWords (rowOf (instructionOf w) double .words) w a b) (rowOf (instructionOf w) double .words) (occurs 119 (templateOf (shape w .row))) (counts-at w h e double))
+      go false e j f = rw e (count-length (cutWords (rowOf (instructionOf w) double .words) w a b) (rowOf (instructionOf w) double .words) (showsOperand (templateOf (shape w .row))) (counts-at w h e double))
 
   pub agree-entry : (p q : ℕ) → (eqb w 4 ≡ true → eqb (a % 4) 3 ≡ true → ⊥) → Agree (entryWith w a b double .words) p q (cutWith w a b double)
       → entryWith w p q double ≡ entryWith w a b double

@@ -1,8 +1,12 @@
--- What the disassembler and the assembler promise.
-pub mod Rows
-pub mod Line
-pub mod Inner
+-- What the disassembler and the assembler promise, in document 01's terms. `Text` has the bytes of a text, `Line` the line of an instruction,
+-- `Disassemble` and `Assemble` the two calls, `Cut` the words that a line gives, `Laws` what holds of both calls together, and `Examples`
+-- document 01's own lines.
+pub mod Text
 pub mod Answer
+pub mod Line
 pub mod Disassemble
+pub mod Cut
 pub mod Assemble
 pub mod Laws
+pub mod Examples
+pub mod inner

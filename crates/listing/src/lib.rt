@@ -2,15 +2,18 @@
 ghost use mathlib.Core.Path.{_≡_};
 ghost use Prim.Native.Nat.{_%_};
 ghost use Rattle.memory.specs.Bus.{busOf};
-ghost use Rattle.listing.specs.Line.{digitOf};
-ghost use Rattle.listing.specs.Answer.{assembled, assemblyReported};
+ghost use Rattle.refusal.specs.Report.{answered};
+ghost use Rattle.listing.specs.Text.{digitOf};
+ghost use Rattle.listing.specs.Answer.{assemblyReported};
 ghost use Rattle.listing.specs.Disassemble.{disassembly, disassembleOf};
-ghost use Rattle.listing.specs.Assemble.{firstWords, assembleOf};
+ghost use Rattle.listing.specs.Assemble.{assembleOf};
+ghost use Rattle.listing.specs.inner.Encode.{firstWords};
 use memory::Admission;
 use refusal::Refusal;
 
 mod encode;
 mod entry;
+mod guess;
 mod line;
 mod rows;
 
@@ -33,7 +36,7 @@ pub enum Assembly {
 }
 
 // The least room for a line, though no line has more than 14 bytes.
-const TEXT_ROOM: usize = 16;
+pub const TEXT_ROOM: usize = 16;
 
 // The line of the instruction at an address, with D as it stands there. Only the line's bytes are written.
 pub fn disassemble(mem: &[u16], at: u16, double: bool, text: &mut [u8]) -> Listing
@@ -48,7 +51,8 @@ pub fn disassemble(mem: &[u16], at: u16, double: bool, text: &mut [u8]) -> Listi
     }
     let entry = entry::entry_at(mem, at, double);
     let line = entry.line;
-    let template = rows::template(line.row);
+    let row = rows::row_at(line.row);
+    let template = row.template;
     let length = line::write(text, line, &template);
     Listing::Listed {
         length: length,
@@ -66,7 +70,7 @@ pub fn hex_digit(value: u16) -> u8
 
 // The first one, two or three words.
 fn first_words(words: [u16; 3], count: u16) -> Assembly
-    ensures { λ r. ⌜ assemblyReported r ≡ assembled (firstWords words count) ⌝ }
+    ensures { λ r. ⌜ assemblyReported r ≡ answered (firstWords words count) ⌝ }
 {
     match count {
         1 => Assembly::One(words[0]),
@@ -80,13 +84,20 @@ fn first_words(words: [u16; 3], count: u16) -> Assembly
 pub fn assemble(text: &[u8], double: bool) -> Assembly
     ensures { λ r. ⌜ assemblyReported r ≡ assembleOf (now (text .entry)) double ⌝ }
 {
-    let row = rows::guess(text);
-    let template = rows::template(row);
-    let words = encode::words_of(encode::read(text, row, &template), double);
+    let row = guess::guess_row(text);
+    let found = rows::row_at(row);
+    let template = found.template;
+    let fits = rows::has_length(&template, text.len());
+    if !fits {
+        return Assembly::Refused(Refusal::NotAListingLine);
+    }
+    let words = encode::words_of(encode::read(text, row, &template), found.base, double);
     let entry = entry::entry_at(&words, 0, double);
     let line = entry.line;
-    let listed = rows::template(line.row);
-    let same = line::spells(text, line, &listed);
+    if line.row != row {
+        return Assembly::Refused(Refusal::NotAListingLine);
+    }
+    let same = line::spells(text, line, &template);
     if same {
         first_words(words, entry.words)
     } else {

@@ -3,8 +3,10 @@ ghost use mathlib.Core.Path.{_≡_};
 ghost use mathlib.Core.List.{_++_};
 ghost use Prim.Native.Nat.{_<_, _≤_};
 ghost use lib.ListN.{length, drop};
-ghost use Rattle.listing.specs.Line.{lineWith, digitOf, signOf, fieldOf, glyphOf, textOf, sameText};
-ghost use Rattle.listing.specs.Inner.{paddedOf};
+ghost use Rattle.listing.specs.Text.{digitOf, sameText};
+ghost use Rattle.listing.specs.inner.Line.{lineWith, signOf, fieldOf, glyphOf, textOf};
+ghost use Rattle.listing.specs.inner.Rows.{templateOf};
+ghost use Rattle.listing.specs.inner.Table.{paddedOf, OfRegisters};
 use crate::rows::END;
 use crate::rows::WIDTH;
 
@@ -27,16 +29,16 @@ pub(crate) fn line_with(row: usize, s: u16, d: u16, operand: u16) -> Line
     }
 }
 
+// What stands between `9` and `A`.
+const GAP: u16 = 7;
+
 // A hexadecimal digit, upper case.
 pub(crate) fn digit(value: u16) -> u8
     requires { ⌜ value < 16 ⌝ }
     ensures { λ r. ⌜ r ≡ digitOf value ⌝ }
 {
-    if value < 10 {
-        (b'0' as u16 + value) as u8
-    } else {
-        (b'A' as u16 + (value - 10)) as u8
-    }
+    let gap = if value < 10 { 0 } else { GAP };
+    (b'0' as u16 + value + gap) as u8
 }
 
 // A branch is forward where s, which has the opcode's bit 5, is 0.
@@ -76,16 +78,43 @@ fn glyph(line: Line, symbol: u8) -> u8
     digit(field(line, symbol))
 }
 
-// Writes a line and returns its length.
+// Where the digit of s stands in a line of two registers, which is "NAME Rs,Rd"; no other row's template has it there.
+const SOURCE: usize = 6;
+
+// Writes a line of two registers and returns its length.
+fn write_registers(text: &mut [u8], line: Line, template: &[u8; 14]) -> usize
+    requires { ⌜ (now template ≡ paddedOf (line .row)) × (line .row < 86) × OfRegisters (line .row) × (16 ≤ length (now text)) ⌝ }
+    ensures { λ r. ⌜ (r ≡ length (textOf line)) × (now (text .exit) ≡ textOf line ++ drop (length (textOf line)) (now (text .entry))) ⌝ }
+{
+    text[0] = template[0];
+    text[1] = template[1];
+    text[2] = template[2];
+    text[3] = template[3];
+    text[4] = b' ';
+    text[5] = b'R';
+    text[6] = digit(line.s % 16);
+    text[7] = b',';
+    text[8] = b'R';
+    text[9] = digit(line.d % 16);
+    10
+}
+
+// Writes a line and returns its length. Two of three opcodes are of two registers, so these go first. Of the other lines most symbols
+// are literals: only past them the end is asked for.
 pub(crate) fn write(text: &mut [u8], line: Line, template: &[u8; 14]) -> usize
     requires { ⌜ (now template ≡ paddedOf (line .row)) × (line .row < 86) × (16 ≤ length (now text)) ⌝ }
     ensures { λ r. ⌜ (r ≡ length (textOf line)) × (now (text .exit) ≡ textOf line ++ drop (length (textOf line)) (now (text .entry))) ⌝ }
 {
+    if template[SOURCE] == b's' {
+        return write_registers(text, line, template);
+    }
     let mut i = 0;
     while i < WIDTH {
         let symbol = template[i];
-        if symbol == END {
-            return i;
+        if b'a' <= symbol {
+            if symbol == END {
+                return i;
+            }
         }
         text[i] = glyph(line, symbol);
         i += 1;
@@ -93,24 +122,17 @@ pub(crate) fn write(text: &mut [u8], line: Line, template: &[u8; 14]) -> usize
     i
 }
 
-// Whether a text is a line.
+// Whether a text as long as a line is that line.
 pub(crate) fn spells(text: &[u8], line: Line, template: &[u8; 14]) -> bool
-    requires { ⌜ (now template ≡ paddedOf (line .row)) × (line .row < 86) ⌝ }
+    requires { ⌜ (now template ≡ paddedOf (line .row)) × (line .row < 86) × (length (now text) ≡ length (templateOf (line .row))) ⌝ }
     ensures { λ r. ⌜ r ≡ sameText (textOf line) (now (text .entry)) ⌝ }
 {
     let mut i = 0;
-    while i < WIDTH {
-        let symbol = template[i];
-        if symbol == END {
-            return text.len() == i;
-        }
-        if text.len() <= i {
-            return false;
-        }
-        if text[i] != glyph(line, symbol) {
+    while i < text.len() {
+        if text[i] != glyph(line, template[i]) {
             return false;
         }
         i += 1;
     }
-    text.len() == i
+    true
 }

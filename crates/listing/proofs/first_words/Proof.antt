@@ -1,3 +1,4 @@
+-- `first_words`: its result is the definition's, case by case.
 use borrow.Author.Tests.{ne-eqb}
 use borrow.Author.Needs.{needs}
 use Rattle.listing.proofs.first_words.Statement.{statement}

@@ -1,6 +1,7 @@
+-- `encode::jump_word`: its result is the definition's, case by case.
 use mathlib.Core.Path.{refl}
 use native.Mathlib.Omega.{arith}
-use Rattle.listing.specs.Assemble.{jumpWord}
+use Rattle.listing.specs.inner.Encode.{jumpWord}
 use borrow.Author.Needs.{needs}
 use Rattle.listing.proofs.encode.jump_word.Statement.{statement}
 use Rattle.listing.proofs.encode.jump_word.Tie as tie

@@ -1,4 +1,5 @@
-use Rattle.listing.specs.Assemble.{plainWords}
+-- `encode::plain_words`: its result is the definition's, case by case.
+use Rattle.listing.specs.inner.Encode.{plainWords}
 use borrow.Author.Needs.{needs}
 use Rattle.listing.proofs.encode.plain_words.Statement.{statement}
 use Rattle.listing.proofs.encode.plain_words.Tie as tie

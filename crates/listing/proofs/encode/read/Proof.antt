@@ -4,51 +4,49 @@ use Prim.Native.Nat.{_-_, _≤_}
 use mathlib.Core.Path.{_≡_, sym, _∙_}
 use mathlib.Core.Logic.{⊎-elim}
 use native.Mathlib.Omega.{arith}
-use lib.ListN.{getD, drop}
-use Rattle.listing.specs.Rows.{templateOf}
-use Rattle.listing.specs.Assemble.{withSymbol, readIn, lineRead}
-use Rattle.listing.proofs.Table.{template-most, padded-at}
-use Rattle.listing.proofs.Reading.{literal, read-step, read-out, read-end}
+use lib.ListN.{length, getD, drop}
+use Rattle.listing.specs.inner.Rows.{templateOf}
+use Rattle.listing.specs.inner.Encode.{withSymbol, readIn, lineRead}
+use Rattle.listing.proofs.Table.{template-most, symbol-at}
+use Rattle.listing.proofs.Reading.{literal, read-step, read-end}
 use Rattle.listing.proofs.encode.read.Statement.{statement}
 use Rattle.listing.proofs.encode.read.Tie as tie
 
 abbrev Inv-loop : tie.InvT-loop
 Inv-loop text row template line₀ i₀ line i =
-    (i ≤ 14) × (readIn (drop i (templateOf row)) (drop i text) line ≡ lineRead row text)
+    (i ≤ length text) × (readIn (drop i (templateOf row)) (drop i text) line ≡ lineRead row text)
 
 abbrev μ-loop : tie.MeasureT-loop
-μ-loop text row template line₀ i₀ line i = 14 - i
+μ-loop text row template line₀ i₀ line i = length text - i
 
 loop-holds : tie.Need-loop-holds Inv-loop μ-loop
 unfolding lineRead
 loop-holds c = (search needs, rw (c .line-with .ensures))
 
-returns : tie.Need-returns Inv-loop μ-loop
-returns c =
-    let a = c .before .before .before .before .before .args in
-    let v = c .before .before .loop in
-    sym (read-out (templateOf (a .row)) (a .text .now) (v .line) (v .i) (c .if1 .taken)) ∙ v .inv .1
+element-copy-out-symbol : tie.Need-element-copy-out-symbol Inv-loop μ-loop
+element-copy-out-symbol c = omega (arith, template-most (c .before .before .before .before .args .row) (c .before .before .before .before .pre .1))
 
 loop-again : tie.Need-loop-again Inv-loop μ-loop
 loop-again c =
-    let a = c .before .before .before .before .before .before .before .args in
-    let p = c .before .before .before .before .before .before .before .pre in
-    let v = c .before .before .before .before .loop in
-    let symbol : getD (a .template .now) (v .i) 0 ≡ getD (templateOf (a .row)) (v .i) 46 =
-    rw (p .0) (padded-at (a .row) (v .i) (c .before .before .before .loop-test .taken)) in
-    let line : c .if2 .line ≡ withSymbol (v .line) (getD (a .template .now) (v .i) 0) (getD (a .text .now) (v .i) 0) =
-    ⊎-elim (λ w. w .3 ∙ w .2 .ensures) (λ w. w .1 ∙ sym (literal (v .line) _ _ (w .0 .left))) (c .if2 .came) in (
+    let a = c .before .before .before .before .before .before .args in
+    let p = c .before .before .before .before .before .before .pre in
+    let v = c .before .before .before .loop in
+    let t = c .before .before .loop-test .taken in
+    let most = template-most (a .row) (p .1) in
+    let symbol : getD (a .template .now) (v .i) 0 ≡ getD (templateOf (a .row)) (v .i) 0 =
+    rw (p .0) (symbol-at (a .row) (v .i) (omega arith) (omega arith)) in
+    let line : c .if1 .line ≡ withSymbol (v .line) (getD (a .template .now) (v .i) 0) (getD (a .text .now) (v .i) 0) =
+    ⊎-elim (λ w. w .3 ∙ w .2 .ensures) (λ w. w .1 ∙ sym (literal (v .line) _ _ (w .0 .left))) (c .if1 .came) in (
       search needs,
       rw (line, symbol)
-          (sym (read-step (templateOf (a .row)) (a .text .now) (v .line) (v .i) (c .before .before .if1 .left)) ∙ v .inv .1),
+          (sym (read-step (templateOf (a .row)) (a .text .now) (v .line) (v .i) (omega arith) t) ∙ v .inv .1),
     )
 
-returns-2 : tie.Need-returns-2 Inv-loop μ-loop
-returns-2 c =
+returns : tie.Need-returns Inv-loop μ-loop
+returns c =
     let a = c .before .before .before .before .args in
     let p = c .before .before .before .before .pre in
     let v = c .before .loop in
-    let most = template-most (a .row) (p .1) in
     sym (read-end (templateOf (a .row)) (a .text .now) (v .line) (v .i) (omega arith)) ∙ v .inv .1
 
 pub read-spec : {M : Type 1} → statement M
@@ -59,11 +57,10 @@ read-spec =
     μ-loop
     (λ c κs. search needs)
     loop-holds
-    returns
-    (λ c. search needs)
+    element-copy-out-symbol
     (λ c. search needs)
     (λ c κs. search needs)
     (λ c. search needs)
     (λ c. search needs)
     loop-again
-    returns-2)
+    returns)

@@ -1,3 +1,4 @@
+-- `encode::sign_value`: its result is the definition's, case by case.
 use Rattle.listing.proofs.encode.sign_value.Statement.{statement}
 use Rattle.listing.proofs.encode.sign_value.Tie as tie
 

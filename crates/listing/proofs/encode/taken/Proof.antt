@@ -1,5 +1,6 @@
+-- `encode::taken`: its result is the definition's, case by case.
 use borrow.Author.Tests.{ne-eqb, le-ltb}
-use Rattle.listing.specs.Assemble.{withSymbol}
+use Rattle.listing.specs.inner.Encode.{withSymbol}
 use borrow.Author.Needs.{needs}
 use Rattle.listing.proofs.encode.taken.Statement.{statement}
 use Rattle.listing.proofs.encode.taken.Tie as tie

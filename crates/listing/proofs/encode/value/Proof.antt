@@ -1,6 +1,7 @@
+-- `encode::value`: its result is the definition's, case by case.
 use mathlib.Core.Path.{refl}
 use native.Mathlib.Omega.{arith}
-use Rattle.listing.specs.Assemble.{valueOf}
+use Rattle.listing.specs.inner.Encode.{valueOf}
 use borrow.Author.Needs.{needs}
 use Rattle.listing.proofs.encode.value.Statement.{statement}
 use Rattle.listing.proofs.encode.value.Tie as tie

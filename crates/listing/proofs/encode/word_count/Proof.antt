@@ -1,4 +1,5 @@
-use Rattle.listing.specs.Assemble.{wordCount}
+-- `encode::word_count`: its result is the definition's, case by case.
+use Rattle.listing.specs.inner.Encode.{wordCount}
 use borrow.Author.Needs.{needs}
 use Rattle.listing.proofs.encode.word_count.Statement.{statement}
 use Rattle.listing.proofs.encode.word_count.Tie as tie

@@ -1,4 +1,5 @@
-use Rattle.listing.specs.Disassemble.{branchLine}
+-- `entry::branch_line`: its arms are those of the definition in the code's shape.
+use Rattle.listing.specs.inner.Entry.{branchLine}
 use borrow.Author.Needs.{needs}
 use Rattle.listing.proofs.Entries.{branch-sign}
 use Rattle.listing.proofs.entry.branch_line.Statement.{statement}

@@ -1,4 +1,5 @@
-use Rattle.listing.specs.Disassemble.{controlLine}
+-- `entry::control_line`: its arms are those of the definition in the code's shape.
+use Rattle.listing.specs.inner.Entry.{controlLine}
 use borrow.Author.Needs.{needs}
 use Rattle.listing.proofs.entry.control_line.Statement.{statement}
 use Rattle.listing.proofs.entry.control_line.Tie as tie

@@ -1,3 +1,4 @@
+-- `entry::line_of`: its arms are those of the definition in the code's shape.
 use borrow.Author.Needs.{needs}
 use Rattle.listing.proofs.entry.line_of.Statement.{statement}
 use Rattle.listing.proofs.entry.line_of.Tie as tie

@@ -1,5 +1,6 @@
+-- `entry::memory_line`: its arms are those of the definition in the code's shape.
 use borrow.Author.Tests.{ne-eqb}
-use Rattle.listing.specs.Disassemble.{memoryLine}
+use Rattle.listing.specs.inner.Entry.{memoryLine}
 use borrow.Author.Needs.{needs}
 use Rattle.listing.proofs.entry.memory_line.Statement.{statement}
 use Rattle.listing.proofs.entry.memory_line.Tie as tie

@@ -1,5 +1,6 @@
+-- `entry::operand_of`: its arms are those of the definition in the code's shape.
 use borrow.Author.Tests.{ne-eqb}
-use Rattle.listing.specs.Disassemble.{lineOperand}
+use Rattle.listing.specs.Line.{lineOperand}
 use borrow.Author.Needs.{needs}
 use Rattle.listing.proofs.entry.operand_of.Statement.{statement}
 use Rattle.listing.proofs.entry.operand_of.Tie as tie

@@ -1,4 +1,5 @@
-use Rattle.listing.specs.Disassemble.{registerLine}
+-- `entry::register_line`: its arms are those of the definition in the code's shape.
+use Rattle.listing.specs.inner.Entry.{registerLine}
 use borrow.Author.Needs.{needs}
 use Rattle.listing.proofs.entry.register_line.Statement.{statement}
 use Rattle.listing.proofs.entry.register_line.Tie as tie

@@ -1,4 +1,5 @@
-use Rattle.listing.specs.Disassemble.{shiftLine}
+-- `entry::shift_line`: its arms are those of the definition in the code's shape.
+use Rattle.listing.specs.inner.Entry.{shiftLine}
 use borrow.Author.Needs.{needs}
 use Rattle.listing.proofs.entry.shift_line.Statement.{statement}
 use Rattle.listing.proofs.entry.shift_line.Tie as tie

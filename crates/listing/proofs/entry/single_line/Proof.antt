@@ -1,4 +1,5 @@
-use Rattle.listing.specs.Disassemble.{singleLine}
+-- `entry::single_line`: its arms are those of the definition in the code's shape.
+use Rattle.listing.specs.inner.Entry.{singleLine}
 use borrow.Author.Needs.{needs}
 use Rattle.listing.proofs.entry.single_line.Statement.{statement}
 use Rattle.listing.proofs.entry.single_line.Tie as tie

@@ -1,7 +1,8 @@
+-- `line::field`: the symbols of the template and the bytes of the line go together.
 use mathlib.Core.Path.{refl}
 use native.Mathlib.Omega.{arith}
 use borrow.Author.Tests.{ne-eqb}
-use Rattle.listing.specs.Line.{fieldOf}
+use Rattle.listing.specs.inner.Line.{fieldOf}
 use Rattle.listing.proofs.line.field.Statement.{statement}
 use Rattle.listing.proofs.line.field.Tie as tie
 

@@ -1,4 +1,5 @@
-use Rattle.listing.specs.Line.{glyphOf}
+-- `line::glyph`: the symbols of the template and the bytes of the line go together.
+use Rattle.listing.specs.inner.Line.{glyphOf}
 use borrow.Author.Needs.{needs}
 use Rattle.listing.proofs.line.glyph.Statement.{statement}
 use Rattle.listing.proofs.line.glyph.Tie as tie

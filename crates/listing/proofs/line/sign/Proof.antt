@@ -1,4 +1,5 @@
-use Rattle.listing.specs.Line.{signOf}
+-- `line::sign`: the symbols of the template and the bytes of the line go together.
+use Rattle.listing.specs.inner.Line.{signOf}
 use Rattle.listing.proofs.line.sign.Statement.{statement}
 use Rattle.listing.proofs.line.sign.Tie as tie
 

@@ -2,11 +2,12 @@
 use borrow.Author.Needs.{needs}
 use Prim.Native.Nat.{_-_, _≤_}
 use mathlib.Core.Path.{_≡_, refl, sym, ap, _∙_}
+use mathlib.Core.Logic.{⊎-elim}
 use mathlib.Core.List.{_++_}
 use native.Mathlib.Omega.{arith}
 use lib.ListN.{length, getD, drop, take}
-use Rattle.listing.specs.Line.{glyphOf, textOf}
-use Rattle.listing.specs.Inner.{paddedOf}
+use Rattle.listing.specs.inner.Line.{glyphOf, textOf}
+use Rattle.listing.specs.inner.Table.{end, paddedOf}
 use Rattle.listing.proofs.Table.{template-most, ends-at, goes-on, symbol-at}
 use Rattle.listing.proofs.Lines.{text-length, text-at, write-step, write-end}
 use Rattle.listing.proofs.line.write.Statement.{statement}
@@ -19,29 +20,36 @@ Inv-loop text₀ line template i₀ text i =
 abbrev μ-loop : tie.MeasureT-loop
 μ-loop text₀ line template i₀ text i = 14 - i
 
+write-registers-requires : tie.Need-write-registers-requires Inv-loop μ-loop
+write-registers-requires c κs =
+    let p = c .before .before .before .before .pre in
+    (p .0, p .1, rw (p .0) at (c .before .if1 .taken), p .2)
+
+returns : tie.Need-returns Inv-loop μ-loop
+returns c = c .before .before .write-registers .ensures
+
 loop-holds : tie.Need-loop-holds Inv-loop μ-loop
 loop-holds c = (search needs, search needs, refl, refl)
 
-returns : tie.Need-returns Inv-loop μ-loop
-returns c =
-    let a = c .before .before .before .before .before .args in
-    let p = c .before .before .before .before .before .pre in
-    let v = c .before .before .before .loop in
-    let e : getD (paddedOf (a .line .row)) (v .i) 0 ≡ 46 = rw (p .0) at (c .if1 .taken) in
-    let past = ends-at (a .line .row) (v .i) (p .1) (c .before .before .loop-test .taken) e in
+returns-2 : tie.Need-returns-2 Inv-loop μ-loop
+returns-2 c =
+    let a = c .before .before .before .before .before .before .before .before .args in
+    let p = c .before .before .before .before .before .before .before .before .pre in
+    let v = c .before .before .before .before .loop in
+    let e : getD (paddedOf (a .line .row)) (v .i) 0 ≡ end = rw (p .0) at (c .if3 .taken) in
+    let past = ends-at (a .line .row) (v .i) (p .1) (c .before .before .before .loop-test .taken) e in
     let long = text-length (a .line) in
     (omega arith, v .inv .3 ∙ write-end (a .text .now) (textOf (a .line)) (v .i) (omega arith))
 
-slice-write-text : tie.Need-slice-write-text Inv-loop μ-loop
-slice-write-text c = search needs
-
 loop-again : tie.Need-loop-again Inv-loop μ-loop
 loop-again c =
-    let a = c .before .before .before .before .before .before .args in
-    let p = c .before .before .before .before .before .before .pre in
+    let a = c .before .before .before .before .before .before .before .before .args in
+    let p = c .before .before .before .before .before .before .before .before .pre in
     let v = c .before .before .before .before .loop in
     let t = c .before .before .before .loop-test .taken in
-    let more = goes-on (a .line .row) (v .i) t (λ e. c .before .if1 .left (rw (p .0) e)) in
+    let other : getD (a .template .now) (v .i) 0 ≡ end → ⊥ =
+    ⊎-elim (λ w. w .1 .left) (λ w e. let small = w .left in omega arith) (c .before .if2 .came) in
+    let more = goes-on (a .line .row) (v .i) t (λ e. other (rw (p .0) e)) in
     let long = text-length (a .line) in
     let byte =
     c .glyph .ensures
@@ -53,10 +61,10 @@ loop-again c =
       rw (v .inv .3, byte) (write-step (a .text .now) (textOf (a .line)) (v .i) (omega arith) (omega arith)),
     )
 
-returns-2 : tie.Need-returns-2 Inv-loop μ-loop
-returns-2 c =
-    let a = c .before .before .before .args in
-    let p = c .before .before .before .pre in
+returns-3 : tie.Need-returns-3 Inv-loop μ-loop
+returns-3 c =
+    let a = c .before .before .before .before .before .args in
+    let p = c .before .before .before .before .before .pre in
     let v = c .before .loop in
     let most = template-most (a .line .row) (p .1) in
     let long = text-length (a .line) in
@@ -68,14 +76,18 @@ write-spec =
     (tie.spec
     Inv-loop
     μ-loop
+    (λ c. search needs)
+    write-registers-requires
+    (λ c. search needs)
+    returns
     loop-holds
     (λ c. search needs)
     (λ c. search needs)
-    returns
+    returns-2
     (λ c κs. search needs)
-    slice-write-text
+    (λ c. search needs)
     (λ c. search needs)
     (λ c. search needs)
     loop-again
     (λ c. search needs)
-    returns-2)
+    returns-3)

@@ -1,28 +1,25 @@
 -- Document 01, "Listing lines": one row for each name and form of its operands, "the row's name and operand in these forms".
-use Prim.Native.Nat.{ℕ, zero, suc}
+use Prim.Native.Nat.{ℕ}
 use Prim.Native.Char.{code}
-use Prim.Native.String.{String, len, charAt}
+use Prim.Native.String.{String}
 use mathlib.Core.List.{List, [], _∷_}
 use lib.ListN.{getD}
-
--- n characters of a string from the i-th, as numbers
-abbrev pub codesFrom : ℕ → String → ℕ → List ℕ
-codesFrom zero s i = []
-codesFrom (suc n) s i = code (charAt s i) ∷ codesFrom n s (suc i)
-
-abbrev pub codes : String → List ℕ
-codes s = codesFrom (len s) s 0
+use Rattle.listing.specs.Text.{codes}
 
 -- A row's line as a template, and its opcode where s and d are 0. In a template a small letter stands for what a line fills in: s and d for a
 -- register's digit or an input's, w x y z for the operand's four digits, g for the sign of a branch. All else is printed as it is.
-pub record Row : Type 0 where
+pub record LineRow : Type 0 where
   pub template : List ℕ
   pub base : ℕ
 
-abbrev pub row : String → ℕ → Row
+-- the first of the small letters
+abbrev pub firstLetter : ℕ
+firstLetter = code "a"
+
+abbrev pub row : String → ℕ → LineRow
 row s n = record { template = codes s; base = n }
 
-unfoldable pub rows : List Row
+unfoldable pub rows : List LineRow
 rows =
     -- 000-007: HLT halts, SDBD sets D, EIS DIS TCI CLRC SETC
     row "HLT" 0x000 ∷ row "SDBD" 0x001 ∷ row "EIS" 0x002 ∷ row "DIS" 0x003 ∷ row "TCI" 0x005 ∷ row "CLRC" 0x006 ∷
