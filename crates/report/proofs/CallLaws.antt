@@ -10,15 +10,14 @@ use lib.ListN.{length, take, drop}
 use lib.Seq.{take-append-seam}
 use Rattle.word.proofs.Choice.{cond-false}
 use Rattle.refusal.specs.declared.Refusal.{Refusal}
-use Rattle.refusal.specs.Refusals.{refusalNumber}
 use Rattle.refusal.specs.Report.{answered}
 use Rattle.refusal.proofs.ReportLaws.{no-answer, same-answer}
 use Rattle.memory.specs.Bus.{busOf, readOf}
 use Rattle.memory.proofs.BusLaws.{lets-in, unless-in}
 use Rattle.listing.specs.declared.Listing.{Listing}
 use Rattle.listing.specs.declared.Listing.the-variants.{Refused as Unlisted, Listed}
-use Rattle.listing.specs.Answer.{refused as unlisted, listed}
-use Rattle.listing.specs.Disassemble.{Disassembly, entryAt, textAt, written, disassembleOf, disassembly}
+use Rattle.listing.specs.Answer.{ListedLine as Told, listedLine}
+use Rattle.listing.specs.Disassemble.{Disassembly, entryAt, textAt, listedDisassembly, disassembleOf, disassembly}
 use Rattle.meter.specs.declared.LongestWait.{LongestWait}
 use Rattle.meter.specs.declared.LowestOver.{LowestOver}
 use Rattle.meter.specs.declared.RegionAnswer.{RegionAnswer}
@@ -38,33 +37,29 @@ pub record ListedLine (read : ℕ → ℕ) (at : ℕ) (double : Bool) (room : Li
 
 module _ (m : List ℕ) (at : ℕ) (double : Bool) (room : List ℕ) {after : List ℕ} (x : Listing) (e : disassembly x after ≡ disassembleOf (busOf m) at double room)
     (h : length m ≤ 65536) (k : 16 ≤ length room) where
-  listing-is : disassembly x after ≡ written (entryAt (readOf (busOf m)) at double) room
+  listing-is : disassembly x after ≡ listedDisassembly room (entryAt (readOf (busOf m)) at double)
   unfolding disassembleOf
   listing-is = e ∙ unless-in _ _ (lets-in m h) ∙ cond-false _ _ (le-ltb (length room) 16 k)
 
   pub listed-line : {size words : ℕ} {next : Bool} → x ≡ Listed size words next → ListedLine (readOf (busOf m)) at double after size words next
-  unfolding written
+  unfolding listedDisassembly
   listed-line {size} {words} {next} f =
       let text = textAt (readOf (busOf m)) at double in
-      let answer : listed size words next ≡ listed (length text) (entryAt (readOf (busOf m)) at double .words) (entryAt (readOf (busOf m)) at double .double) =
+      let answer : listedLine size words next ≡ listedLine (length text) (entryAt (readOf (busOf m)) at double .words) (entryAt (readOf (busOf m)) at double .double) =
       ap (λ (y : Listing). disassembly y after .answer) (sym f) ∙ ap (λ (d : Disassembly). d .answer) listing-is
       in
       let line : after ≡ text ++ drop (length text) room = ap (λ (d : Disassembly). d .room) listing-is in
-      let s : size ≡ length text = cc in
+      let told = same-answer answer in
+      let s : size ≡ length text = ap (λ (l : Told). l .length) told in
       let z : length text - 0 ≡ length text = omega arith in
       let t : take (size - 0) (drop 0 after) ≡ text = rw (s, line, z) (take-append-seam text (drop (length text) room)) in
       let k : length text ≤ 14 = text-short (readOf (busOf m)) at double in
-      record { words-are = cc; next-is = cc; text-is = t; short = rw s k; text-short = rw t k }
+      record { words-are = ap (λ (l : Told). l .words) told; next-is = ap (λ (l : Told). l .double) told; text-is = t; short = rw s k; text-short = rw t k }
 
   pub listed-surely : {A : Type 0} {r : Refusal} → x ≡ Unlisted r → A
-  unfolding written
-  listed-surely {A} {r} f =
-      let text = textAt (readOf (busOf m)) at double in
-      let answer : unlisted (refusalNumber r) ≡ listed (length text) (entryAt (readOf (busOf m)) at double .words) (entryAt (readOf (busOf m)) at double .double) =
-      ap (λ (y : Listing). disassembly y after .answer) (sym f) ∙ ap (λ (d : Disassembly). d .answer) listing-is
-      in
-      let z : _≡_ {A = ℕ} 0 1 = cc in
-      absurd (omega arith)
+  unfolding listedDisassembly
+  listed-surely f =
+      no-answer (ap (λ (y : Listing). disassembly y after .answer) (sym f) ∙ ap (λ (d : Disassembly). d .answer) listing-is)
 
 module _ (m : List ℕ) (first last : ℕ) (x : RegionAnswer) (e : regionReport x ≡ regionOf (busOf m) first last meteringLimit)
     (h : length m ≤ 65536) (k : first ≤ last) where

@@ -7,36 +7,26 @@ use native.Mathlib.Omega.{arith}
 use borrow.Author.Tests.{lt-ltb, le-ltb}
 use lib.Dec.{ltb, lit≤}
 use lib.ListN.{length, length-append}
-use Rattle.word.specs.Word.{wrapAdd}
 use Rattle.word.proofs.Choice.{cond-both, cond-true, cond-false}
 use Rattle.memory.specs.Bus.{busOf, readOf}
-use Rattle.image.specs.Format.{Record}
-use Rattle.decode.specs.declared.Decoded.{Decoded}
-use Rattle.decode.specs.declared.Decoded.the-variants.{Unspecified, Known}
-use Rattle.decode.specs.Decode.{decodeAt}
-use Rattle.decode.proofs.RowLaws.{row-bounds}
-use Rattle.listing.specs.Disassemble.{entryFor, entryOf, entryAt, textAt}
-use Rattle.listing.proofs.Entries.{entry-in}
-use Rattle.listing.proofs.Lines.{text-length}
-use Rattle.listing.proofs.Table.{template-most}
+use Rattle.records.specs.Records.{Record}
+use Rattle.image.specs.Format.{recordBytes}
+use Rattle.listing.specs.Text.{hexOf}
+use Rattle.listing.specs.Disassemble.{entryAt, textAt}
+use Rattle.listing.proofs.Bounds.{lines-bounded}
 use Rattle.meter.specs.Answer.{Longest, noWait, longest, Lowest, noOver, overAt, Named}
 use Rattle.meter.specs.Meter.{answerFrom, namedOf}
-use Rattle.report.specs.declared.Report.{Report}
-use Rattle.report.specs.declared.Report.the-variants.{Listing, Metering}
-use Rattle.report.specs.Text.{space, hexOf, lineText, linesText}
+use Rattle.report.specs.declared.Program.{Program}
+use Rattle.report.specs.declared.Program.the-variants.{ListImage, MeterImage}
+use Rattle.report.specs.Text.{space, lineText, linesText}
 use Rattle.report.specs.Instructions.{instructionLine, linesFrom, instructionLines}
 use Rattle.report.specs.Regions.{meteringLimit, waitText, overText, namedLine, regionLine}
-use Rattle.report.specs.Report.{recordLines, recordsLines, endNumber}
+use Rattle.report.specs.Program.{recordLines, recordsLines, endNumber}
 use Rattle.report.specs.Laws.{EveryInstructionListed}
 
 -- every instruction has a word
 pub words-some : (read : ℕ → ℕ) (at : ℕ) (double : Bool) → 1 ≤ entryAt read at double .words
-unfolding entryAt entryFor
-words-some read at double = go (decodeAt read at false)
-  where
-    go : (x : Decoded) → 1 ≤ entryOf x double (read (wrapAdd at 1)) (read (wrapAdd at 2)) .words
-    go Unspecified = lit≤ tt
-    go (Known i) = row-bounds .words-least i double
+words-some read at double = lines-bounded read at double .words-least
 
 hex-length : (w : ℕ) → length (hexOf w) ≡ 4
 unfolding hexOf
@@ -55,8 +45,7 @@ unfolding namedLine
 named-pieces first last named = simp append-assoc
 
 pub text-short : (read : ℕ → ℕ) (at : ℕ) (double : Bool) → length (textAt read at double) ≤ 14
-text-short read at double =
-    rw (text-length (entryAt read at double .line)) (template-most (entryAt read at double .line .row) (entry-in read at double))
+text-short read at double = lines-bounded read at double .text-most
 
 pub line-short : (read : ℕ → ℕ) (at : ℕ) (double : Bool) → length (lineText (instructionLine read at double)) ≤ 20
 unfolding instructionLine
@@ -114,25 +103,25 @@ unfolding namedLine
 named-short first last named =
     simp (length-append, hex-length) (omega (arith, wait-short (named .longest-wait), over-short (named .lowest-over)))
 
--- a record of c words has 6 + c * 2 bytes in the file
-pub record-size : (report : Report) (m : List ℕ) (a c : ℕ) → 0 < c → length (linesText (recordLines report m a c)) ≤ (6 + c * 2) * 10
+-- ten bytes of text suffice for each byte of a record in the file
+pub record-size : (program : Program) (m : List ℕ) (a c : ℕ) → 0 < c → length (linesText (recordLines program m a c)) ≤ recordBytes c * 10
 unfolding instructionLines regionLine
-record-size Listing m a c h = omega (arith, lines-size c (readOf (busOf m)) (a + c) a false)
-record-size Metering m a c h =
+record-size ListImage m a c h = omega (arith, lines-size c (readOf (busOf m)) (a + c) a false)
+record-size MeterImage m a c h =
     let line = regionLine m a (a + (c - 1)) in
     omega (arith, length-append (lineText line) [], named-short a (a + (c - 1)) (namedOf (answerFrom (busOf m) meteringLimit) a (a + (c - 1))))
 
-pub record-few : (report : Report) (m : List ℕ) (a c : ℕ) → 0 < c → length (recordLines report m a c) ≤ c
+pub record-few : (program : Program) (m : List ℕ) (a c : ℕ) → 0 < c → length (recordLines program m a c) ≤ c
 unfolding instructionLines
-record-few Listing m a c h = lines-few c (readOf (busOf m)) (a + c) a false
-record-few Metering m a c h = h
+record-few ListImage m a c h = lines-few c (readOf (busOf m)) (a + c) a false
+record-few MeterImage m a c h = h
 
 -- the metering has one line for each record
-metering-counts : (m : List ℕ) (rs : List Record) → length rs ≡ length (recordsLines Metering m rs)
+metering-counts : (m : List ℕ) (rs : List Record) → length rs ≡ length (recordsLines MeterImage m rs)
 metering-counts m [] = refl
 metering-counts m (r ∷ rs) = ap suc (metering-counts m rs)
 
 -- so that the number behind END is that of the lines in both
-pub end-number : (report : Report) (m : List ℕ) (rs : List Record) → endNumber report (recordsLines report m rs) rs ≡ length (recordsLines report m rs)
-end-number Listing m rs = refl
-end-number Metering m rs = metering-counts m rs
+pub end-number : (program : Program) (m : List ℕ) (rs : List Record) → endNumber program (recordsLines program m rs) rs ≡ length (recordsLines program m rs)
+end-number ListImage m rs = refl
+end-number MeterImage m rs = metering-counts m rs

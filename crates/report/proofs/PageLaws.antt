@@ -6,11 +6,15 @@ use native.Mathlib.Omega.{arith}
 use native.Mathlib.Numerals.{add-one}
 use lib.ListN.{length, getD, take, set, length-take, length-append}
 use lib.Seq.{take-suc, sets, length-sets, sets-eq, length-take-le}
-use Rattle.image.proofs.ByteLaws.{sets-split}
+use Rattle.records.proofs.OverLaws.{sets-split}
+use Rattle.refusal.specs.Report.{Report, isRefused}
+use Rattle.report.specs.declared.Program.{Program}
+use Rattle.report.specs.declared.Printed.{Printed}
 use Rattle.report.specs.declared.page.Page.{Page}
 use Rattle.report.specs.Text.{lineText, linesText}
-use Rattle.report.specs.Report.{printing, printed, Within}
-use Rattle.report.specs.Page.{Puts, Adds}
+use Rattle.report.specs.Reading.{ReadImage}
+use Rattle.report.specs.Program.{readingText, textPut, printing, Within}
+use Rattle.report.specs.inner.Page.{Puts, Prints, Adds}
 
 -- The first i bytes of a piece, laid from a place of the room on.
 pub record Laying (room : List ℕ) (at : ℕ) (bytes after : List ℕ) (i : ℕ) : Type 0 where
@@ -49,17 +53,19 @@ pub puts-as : {r₀ r₁ xs ys : List ℕ} {a b : ℕ} → xs ≡ ys → Puts r�
 puts-as e p = rw e at p
 
 -- a text put at the front of the room is printed, and lies there
-pub puts-printed : {before text after : List ℕ} {size : ℕ} → Puts before 0 text after size → printed size after ≡ printing text before
-unfolding printing
-puts-printed {before} {text} {after} {size} p =
-    let e : size ≡ length text = omega (arith, p .place) in
-    let z : 0 + length text ≡ length text = omega arith in
-    rw (e, p .room, sets-eq text before 0 (p .within), z)
+module _ {before : List ℕ} {program : Program} {reading : Report ReadImage} {after : List ℕ} {printed : Printed}
+    (p : Prints before program reading after printed) where
+  pub prints-text : printing printed after ≡ textPut (isRefused reading) (readingText program reading) before
+  prints-text =
+      let text = readingText program reading in
+      let e : printed .size ≡ length text = omega (arith, p .puts .place) in
+      let z : 0 + length text ≡ length text = omega arith in
+      rw (e, p .refused, p .puts .room, sets-eq text before 0 (p .puts .within), z)
 
-pub puts-within : {before text after : List ℕ} {size : ℕ} → Puts before 0 text after size → Within size after
-puts-within {before} {text} {after} {size} p =
-    let h : size ≤ length after = omega (arith, p .place, p .within, puts-length p) in
-    (h, sym (length-take-le size after h))
+  pub prints-within : Within (printed .size) after
+  prints-within =
+      let h : printed .size ≤ length after = omega (arith, p .puts .place, p .puts .within, puts-length (p .puts)) in
+      (h, sym (length-take-le (printed .size) after h))
 
 lines-append : (ls ms : List (List ℕ)) → linesText (ls ++ ms) ≡ linesText ls ++ linesText ms
 lines-append [] ms = refl

@@ -9,18 +9,19 @@ use lib.Seq.{drop-drop}
 use Rattle.memory.specs.Bus.{busOf, readOf}
 use Rattle.image.specs.declared.FirstRecord.{FirstRecord}
 use Rattle.image.specs.declared.FirstRecord.the-variants.{Record as FoundRecord, NoRecord}
-use Rattle.image.specs.Format.{Record}
+use Rattle.records.specs.Records.{Record}
+use Rattle.image.specs.Format.{recordLimit, headBytes, recordHeadBytes, recordBytes}
 use Rattle.image.specs.Read.{partOf, firstOf, whole, bodyOf}
 use Rattle.image.specs.Answer.{firstReported}
 use Rattle.image.proofs.ByteLaws.{rest, words-length}
 use Rattle.image.proofs.FirstLaws.{Behind, first-behind, none-behind}
-use Rattle.report.specs.declared.Report.{Report}
+use Rattle.report.specs.declared.Program.{Program}
 use Rattle.report.specs.declared.page.Page.{Page}
-use Rattle.report.specs.declared.instructions.Next.{Next}
-use Rattle.report.specs.Reading.{memoryWords, inputLimit, recordsOf}
+use Rattle.report.specs.declared.instructions.NextLine.{NextLine}
+use Rattle.report.specs.Reading.{boardWords, inputLimit, recordsOf}
 use Rattle.report.specs.Instructions.{instructionLine, linesFrom, instructionLines}
-use Rattle.report.specs.Report.{recordLines, recordsLines}
-use Rattle.report.specs.Page.{Adds, emptyPage, Ready, Fills, Steps}
+use Rattle.report.specs.Program.{recordLines, recordsLines}
+use Rattle.report.specs.inner.Page.{Adds, emptyPage, Ready, Fills, Steps}
 use Rattle.report.proofs.PageLaws.{puts-length, adds-none, adds-then, adds-line}
 use Rattle.report.proofs.LineLaws.{words-some, line-short, lines-on, lines-end, record-size, record-few}
 
@@ -54,7 +55,7 @@ module _ {m : List ℕ} {address count : ℕ} {room₀ : List ℕ} {page : Page}
   pub listed-length : length room ≡ length room₀
   listed-length = puts-length (k .adds .puts)
 
-  pub listed-on : {after : List ℕ} {line : Next} → next < address + count → Steps (readOf (busOf m)) next double room at after line
+  pub listed-on : {after : List ℕ} {line : NextLine} → next < address + count → Steps (readOf (busOf m)) next double room at after line
       → Listed m address count room₀ page after (next + line .words) (line .double) (line .at) (lines + 1)
   listed-on {after} {line} h s =
       let read = readOf (busOf m) in
@@ -82,20 +83,20 @@ module _ {m : List ℕ} {address count : ℕ} {room₀ : List ℕ} {page : Page}
       rw e at (k .adds)
 
 -- The records of a file before the byte `from` are printed.
-pub record Walked (report : Report) (file m room₀ : List ℕ) (at : ℕ) (room : List ℕ) (page : Page) (from : ℕ) : Type 0 where
+pub record Walked (program : Program) (file m room₀ : List ℕ) (at : ℕ) (room : List ℕ) (page : Page) (from : ℕ) : Type 0 where
   pub done : List (List ℕ)
   pub left : List Record
   pub stated : ℕ
   pub within : from ≤ length file
-  pub reads : bodyOf memoryWords (drop from file) ≡ whole left stated
+  pub reads : bodyOf recordLimit boardWords (drop from file) ≡ whole left stated
   pub size : page .at ≤ at + from * 10
   pub few : page .lines * 2 ≤ from
   pub adds : Adds room₀ (emptyPage at) done room page
-  pub same : done ++ recordsLines report m left ≡ recordsLines report m (recordsOf file)
+  pub same : done ++ recordsLines program m left ≡ recordsLines program m (recordsOf file)
 
-pub walked-none : (report : Report) (file m room : List ℕ) (at : ℕ) → at ≤ length room → Ready file m → Walked report file m room at room (emptyPage at) 4
+pub walked-none : (program : Program) (file m room : List ℕ) (at : ℕ) → at ≤ length room → Ready file m → Walked program file m room at room (emptyPage at) headBytes
 unfolding recordsOf
-walked-none report file m room at h r =
+walked-none program file m room at h r =
     let w = r .whole-file in
     record {
       done = [];
@@ -110,44 +111,44 @@ walked-none report file m room at h r =
     }
 
 -- the code reads the next record off a slice from the byte `from` on
-module _ {report : Report} {file m room₀ : List ℕ} {at : ℕ} {room : List ℕ} {page : Page} {from : ℕ} (r : FirstRecord)
-    (k : Walked report file m room₀ at room page from) (n : length m ≡ memoryWords)
-    (e : firstReported r ≡ firstOf (partOf (length m) (take (length file - from) (drop from file)))) where
-  first-is : firstReported r ≡ firstOf (partOf memoryWords (drop from file))
+module _ {program : Program} {file m room₀ : List ℕ} {at : ℕ} {room : List ℕ} {page : Page} {from : ℕ} (r : FirstRecord)
+    (k : Walked program file m room₀ at room page from) (n : length m ≡ boardWords)
+    (e : firstReported r ≡ firstOf (partOf recordLimit (length m) (take (length file - from) (drop from file)))) where
+  first-is : firstReported r ≡ firstOf (partOf recordLimit boardWords (drop from file))
   first-is = rw (n, rest file from) at e
 
-  pub walked-record : {a c : ℕ} → r ≡ FoundRecord a c → Behind memoryWords (drop from file) a c (k .left) (k .stated)
-  walked-record f = first-behind memoryWords (drop from file) (k .reads) (ap firstReported (sym f) ∙ first-is)
+  pub walked-record : {a c : ℕ} → r ≡ FoundRecord a c → Behind recordLimit boardWords (drop from file) a c (k .left) (k .stated)
+  walked-record f = first-behind recordLimit boardWords (drop from file) (k .reads) (ap firstReported (sym f) ∙ first-is)
 
-  pub walked-within : {a c : ℕ} → r ≡ FoundRecord a c → from + (6 + c * 2) ≤ length file
+  pub walked-within : {a c : ℕ} → r ≡ FoundRecord a c → from + recordBytes c ≤ length file
   walked-within f = omega (arith, walked-record f .sound .complete, length-drop from file, k .within)
 
-  pub walked-on : {a c : ℕ} {after : List ℕ} {next : Page} → r ≡ FoundRecord a c → Adds room page (recordLines report m a c) after next
-      → Walked report file m room₀ at after next (from + (6 + c * 2))
+  pub walked-on : {a c : ℕ} {after : List ℕ} {next : Page} → r ≡ FoundRecord a c → Adds room page (recordLines program m a c) after next
+      → Walked program file m room₀ at after next (from + recordBytes c)
   walked-on {a} {c} {after} {next} f s =
       let b = walked-record f in
       record {
-        done = k .done ++ recordLines report m a c;
+        done = k .done ++ recordLines program m a c;
         left = b .records;
         stated = k .stated;
         within = walked-within f;
-        reads = rw (← drop-drop (6 + c * 2) from file) (b .reads);
-        size = omega (arith, k .size, s .puts .place, record-size report m a c (b .sound .some));
-        few = omega (arith, k .few, s .count, record-few report m a c (b .sound .some));
+        reads = rw (← drop-drop (recordBytes c) from file) (b .reads);
+        size = omega (arith, k .size, s .puts .place, record-size program m a c (b .sound .some));
+        few = omega (arith, k .few, s .count, record-few program m a c (b .sound .some));
         adds = adds-then (k .adds) s;
-        same = append-assoc (k .done) _ _ ∙ rw (b .all, words-length c (drop 6 (drop from file))) at (k .same);
+        same = append-assoc (k .done) _ _ ∙ rw (b .all, words-length c (drop recordHeadBytes (drop from file))) at (k .same);
       }
 
-  pub walked-end : r ≡ NoRecord → length file ≤ inputLimit → Fills room₀ at (recordsLines report m (recordsOf file)) room page
+  pub walked-end : r ≡ NoRecord → length file ≤ inputLimit → Fills room₀ at (recordsLines program m (recordsOf file)) room page
   walked-end f l =
-      let z : k .left ≡ [] = none-behind memoryWords (drop from file) (k .reads) (ap firstReported (sym f) ∙ first-is) in
-      let d : k .done ≡ recordsLines report m (recordsOf file) = sym (append-nil (k .done)) ∙ rw z at (k .same) in
+      let z : k .left ≡ [] = none-behind recordLimit boardWords (drop from file) (k .reads) (ap firstReported (sym f) ∙ first-is) in
+      let d : k .done ≡ recordsLines program m (recordsOf file) = sym (append-nil (k .done)) ∙ rw z at (k .same) in
       record {
         adds = rw d at (k .adds);
         size = omega (arith, k .size, k .within);
         few = omega (arith, k .few, k .within);
       }
 
-pub walked-length : {report : Report} {file m room₀ : List ℕ} {at : ℕ} {room : List ℕ} {page : Page} {from : ℕ}
-    → Walked report file m room₀ at room page from → length room ≡ length room₀
+pub walked-length : {program : Program} {file m room₀ : List ℕ} {at : ℕ} {room : List ℕ} {page : Page} {from : ℕ}
+    → Walked program file m room₀ at room page from → length room ≡ length room₀
 walked-length k = puts-length (k .adds .puts)

@@ -5,8 +5,9 @@ use mathlib.Core.Bool.{Bool, false, cond}
 use mathlib.Core.List.{List, [], _∷_, _++_}
 use lib.Dec.{ltb}
 use Rattle.memory.specs.Bus.{busOf, readOf}
+use Rattle.listing.specs.Text.{hexOf}
 use Rattle.listing.specs.Disassemble.{entryAt, textAt}
-use Rattle.report.specs.Text.{space, hexOf}
+use Rattle.report.specs.Text.{space}
 
 unfoldable pub instructionLine : (ℕ → ℕ) → ℕ → Bool → List ℕ
 instructionLine read at double = hexOf at ++ (space ∷ textAt read at double)

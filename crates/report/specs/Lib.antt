@@ -1,8 +1,9 @@
--- What the two programs print. Read Report first; it cites Reading, Instructions and Regions.
+-- What the two programs print. Read Program first; it cites Reading, Instructions and Regions. `inner` says how the code puts a text together;
+-- no public contract cites it.
 pub mod Text
 pub mod Reading
 pub mod Instructions
 pub mod Regions
-pub mod Report
+pub mod Program
 pub mod Laws
-pub mod Page
+pub mod inner

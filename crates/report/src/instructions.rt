@@ -3,27 +3,24 @@ ghost use Prim.Native.Nat.{_+_, _*_, _≤_};
 ghost use lib.ListN.{length};
 ghost use Rattle.memory.specs.Bus.{busOf, readOf};
 ghost use Rattle.report.specs.Instructions.{instructionLines};
-ghost use Rattle.report.specs.Page.{Adds, Steps};
+ghost use Rattle.report.specs.inner.Page.{Adds, Steps};
 use crate::page;
 use crate::page::Page;
 use listing::Listing;
 
 // Behind an instruction's line: the place in the room, the instruction's words, and D for the next one.
-pub(crate) struct Next {
+pub(crate) struct NextLine {
     pub at: usize,
     pub words: u16,
     pub double: bool,
 }
 
-// The room that the disassembler asks for.
-const TEXT_ROOM: usize = 16;
-
 // Address, space, text.
-fn put_line(memory: &[u16], address: u16, double: bool, room: &mut [u8], at: usize) -> Next
+fn put_line(memory: &[u16], address: u16, double: bool, room: &mut [u8], at: usize) -> NextLine
     requires { ⌜ (length (now memory) ≤ 65536) × (at + 20 ≤ length (now room)) ⌝ }
     ensures { λ r. ⌜ Steps (readOf (busOf (now (memory .entry)))) address double (now (room .entry)) at (now (room .exit)) r ⌝ }
 {
-    let mut text = [0u8; TEXT_ROOM];
+    let mut text = [0u8; listing::TEXT_ROOM];
     let listed = listing::disassemble(memory, address, double, &mut text);
     match listed {
         Listing::Listed {
@@ -33,14 +30,14 @@ fn put_line(memory: &[u16], address: u16, double: bool, room: &mut [u8], at: usi
         } => {
             let start = page::put_field(room, at, address);
             let end = page::put_bytes(room, start, &text[0..length]);
-            Next {
+            NextLine {
                 at: page::end_line(room, end),
                 words: words,
                 double: double,
             }
         }
         // neither the memory nor the room is refused
-        Listing::Refused(_) => Next {
+        Listing::Refused(_) => NextLine {
             at: at,
             words: 1,
             double: false,

@@ -4,9 +4,10 @@ ghost use mathlib.Core.List.{[], _∷_, _++_};
 ghost use Prim.Native.Nat.{_+_, _<_, _≤_};
 ghost use lib.ListN.{length};
 ghost use Rattle.refusal.specs.Refusals.{refusalNumber};
-ghost use Rattle.report.specs.Text.{space, hexOf, decimalOf, lineText};
-ghost use Rattle.report.specs.Report.{refusedLine};
-ghost use Rattle.report.specs.Page.{Puts};
+ghost use Rattle.listing.specs.Text.{hexOf};
+ghost use Rattle.report.specs.Text.{space, decimalText, lineText};
+ghost use Rattle.report.specs.Program.{refusedLine};
+ghost use Rattle.report.specs.inner.Page.{Puts};
 use refusal::Refusal;
 
 // How far the room is filled, and how many lines of records are in it.
@@ -62,7 +63,7 @@ pub(crate) fn put_field(room: &mut [u8], at: usize, word: u16) -> usize
 // A number of one decimal digit or two.
 fn put_decimal(room: &mut [u8], at: usize, number: u16) -> usize
     requires { ⌜ (number < 100) × (at + 2 ≤ length (now room)) ⌝ }
-    ensures { λ r. ⌜ Puts (now (room .entry)) at (decimalOf number) (now (room .exit)) r × (r ≤ at + 2) ⌝ }
+    ensures { λ r. ⌜ Puts (now (room .entry)) at (decimalText number) (now (room .exit)) r × (r ≤ at + 2) ⌝ }
 {
     if number < 10 {
         return put_byte(room, at, b'0' + number as u8);

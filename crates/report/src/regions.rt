@@ -4,7 +4,7 @@ ghost use lib.ListN.{length};
 ghost use Rattle.meter.specs.Answer.{longestOf, lowestOf};
 ghost use Rattle.report.specs.Text.{lineText};
 ghost use Rattle.report.specs.Regions.{waitText, overText, namedBy, namedLine, regionLines};
-ghost use Rattle.report.specs.Page.{Puts, Adds};
+ghost use Rattle.report.specs.inner.Page.{Puts, Adds};
 use crate::page;
 use crate::page::Page;
 use meter::LongestWait;

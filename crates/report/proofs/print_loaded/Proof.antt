@@ -1,4 +1,5 @@
 -- The loader's answer decides: its refusal's line, or the text of the records.
+use mathlib.Core.Path.{refl}
 use native.Mathlib.Omega.{arith}
 use borrow.Author.Needs.{needs}
 use Rattle.image.proofs.FirstLaws.{loaded-whole}
@@ -17,10 +18,14 @@ put-report-requires c κs =
     )
 
 returns : tie.Need-returns
-returns c = rw (← c .before .before .before .before .before .before .before .before .before .load .ensures, c .before .before .before .before .before .answer .given .1) (c .before .before .put-refusal .ensures)
+returns c =
+    rw (← c .before .before .before .before .before .before .before .before .before .load .ensures, c .before .before .before .before .before .answer .given .1)
+    (record { puts = c .before .before .put-refusal .ensures; refused = refl })
 
 returns-2 : tie.Need-returns-2
-returns-2 c = rw (← c .before .before .before .before .before .before .before .before .before .load .ensures, c .before .before .before .before .before .enum-told .given .1) (c .before .before .put-report .ensures)
+returns-2 c =
+    rw (← c .before .before .before .before .before .before .before .before .before .load .ensures, c .before .before .before .before .before .enum-told .given .1)
+    (record { puts = c .before .before .put-report .ensures; refused = refl })
 
 pub print-loaded-spec : {M : Type 1} → statement M
 print-loaded-spec =

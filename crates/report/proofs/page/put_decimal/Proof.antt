@@ -1,17 +1,17 @@
 -- One digit or two, as the definition chooses.
 use borrow.Author.Needs.{needs}
 use borrow.Author.Tests.{lt-ltb, le-ltb}
-use Rattle.report.specs.Text.{decimalOf}
+use Rattle.report.specs.Text.{decimalText}
 use Rattle.report.proofs.PageLaws.{puts-then}
 use Rattle.report.proofs.page.put_decimal.Statement.{statement}
 use Rattle.report.proofs.page.put_decimal.Tie as tie
 
 returns : tie.Need-returns
-unfolding decimalOf
+unfolding decimalText
 returns c = (rw (lt-ltb _ _ (c .before .before .before .before .if1 .taken)) (c .before .before .put-byte .ensures), search needs)
 
 returns-2 : tie.Need-returns-2
-unfolding decimalOf
+unfolding decimalText
 returns-2 c =
     (rw (le-ltb _ _ (c .before .before .before .before .before .before .before .before .if1 .left)) (puts-then (c .before .before .before .before .before .before .put-byte2 .ensures) (c .before .before .put-byte3 .ensures)), search needs)
 

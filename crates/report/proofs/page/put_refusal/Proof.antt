@@ -1,7 +1,7 @@
 -- The word, the refusal's number and the line's end.
 use borrow.Author.Needs.{needs}
 use Rattle.refusal.proofs.Laws.{numbers-low}
-use Rattle.report.specs.Report.{refusedLine}
+use Rattle.report.specs.Program.{refusedLine}
 use Rattle.report.proofs.PageLaws.{puts-then}
 use Rattle.report.proofs.page.put_refusal.Statement.{statement}
 use Rattle.report.proofs.page.put_refusal.Tie as tie

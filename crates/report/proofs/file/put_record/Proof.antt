@@ -1,7 +1,7 @@
 -- One line an instruction, or one line a record.
 use borrow.Author.Needs.{needs}
-use Rattle.report.proofs.records.put_record.Statement.{statement}
-use Rattle.report.proofs.records.put_record.Tie as tie
+use Rattle.report.proofs.file.put_record.Statement.{statement}
+use Rattle.report.proofs.file.put_record.Tie as tie
 
 returns : tie.Need-returns
 returns c = rw (c .before .before .before .before .enum-told .given .1) (c .before .before .put-lines .ensures)

@@ -3,11 +3,11 @@ use mathlib.Core.Path.{_≡_, _∙_}
 use native.Mathlib.Omega.{arith}
 use borrow.Author.Needs.{needs}
 use Rattle.report.specs.Reading.{recordsOf}
-use Rattle.report.specs.Report.{recordsLines, boardLine, endLine, endNumber, loadedText}
+use Rattle.report.specs.Program.{recordsLines, boardLine, endLine, endNumber, loadedText}
 use Rattle.report.proofs.LineLaws.{end-number}
 use Rattle.report.proofs.PageLaws.{puts-then}
-use Rattle.report.proofs.records.put_report.Statement.{statement}
-use Rattle.report.proofs.records.put_report.Tie as tie
+use Rattle.report.proofs.file.put_report.Statement.{statement}
+use Rattle.report.proofs.file.put_report.Tie as tie
 
 put-records-requires : tie.Need-put-records-requires
 put-records-requires c κs = (c .before .before .before .before .before .before .before .before .before .pre .0, omega (arith, c .before .before .before .put-numbered .ensures .1, c .before .before .before .before .before .before .before .before .before .pre .1))
@@ -21,8 +21,8 @@ returns c =
     let a = c .before .before .before .before .before .before .before .before .before .before .before .before .before .before .before .before .before .before .args in
     let rs = recordsOf (a .file .now) in
     let f = c .before .before .before .before .before .before .before .before .put-records .ensures .adds in
-    let n : endNumber (a .report) (recordsLines (a .report) (a .memory .now) rs) rs ≡ c .before .before .before .before .before .before .before .before .put-records .result .lines =
-    end-number (a .report) (a .memory .now) rs ∙ omega (arith, f .count)
+    let n : endNumber (a .program) (recordsLines (a .program) (a .memory .now) rs) rs ≡ c .before .before .before .before .before .before .before .before .put-records .result .lines =
+    end-number (a .program) (a .memory .now) rs ∙ omega (arith, f .count)
     in
     rw n (puts-then (c .before .before .before .before .before .before .before .before .before .before .before .before .put-numbered .ensures .0) (puts-then (f .puts) (c .before .before .put-numbered2 .ensures .0)))
 
