@@ -8,6 +8,9 @@
 #include <stddef.h>
 #include <stdint.h>
 
+/* The number of this interface, raised by each request that changes or adds a call. */
+#define CP1610_INTERFACE 1
+
 #ifdef __cplusplus
 extern "C" {
 #endif
@@ -108,7 +111,8 @@ uint64_t cp1610_region(const uint16_t *mem, size_t mem_length, uint16_t first, u
 uint64_t cp1610_list(const uint16_t *mem, size_t mem_length, uint16_t address, uint8_t d, uint8_t *text, size_t text_length,
     uint32_t *out, size_t out_length);
 
-/* The words of a line, with D as it stands before it. Kind 1; the value is the count of words, and those past it stay.
+/* The words of a line, with D as it stands before it (anything but 0 is set). Kind 1; the value is the count of words, and those past
+ * it stay.
  * Refused by 6 for a line that is not one of the lister's. */
 uint64_t cp1610_assemble(const uint8_t *line, size_t line_length, uint8_t d, uint16_t *words, size_t words_length);
 

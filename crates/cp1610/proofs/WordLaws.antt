@@ -9,8 +9,9 @@ use lib.ListN.{length, getD, drop}
 use lib.Seq.{sets, sets-eq}
 use Rattle.cpu.specs.Machine.{Machine}
 use Rattle.run.specs.Run.{RunDone}
+use Rattle.listing.specs.Answer.{ListedLine}
 use Rattle.meter.specs.Answer.{Longest, noWait, longest, Lowest, noOver, overAt}
-use Rattle.cp1610.specs.Words.{stateLength, eight, flagWord, markWords, packed}
+use Rattle.cp1610.specs.Words.{stateLength, eight, isSet, flagWord, unpacked, markWords, packed}
 use Rattle.cp1610.specs.Answers.{runLength, runWords}
 use Rattle.cp1610.specs.MeterCall.{regionLength, longestWords, lowestWords, regionWords}
 use Rattle.cp1610.specs.ListingCall.{lineWords, listLength, listWords}
@@ -20,18 +21,57 @@ pub cast-flag : (b : Bool) → boolByte b ≡ flagWord b
 cast-flag true = refl
 cast-flag false = refl
 
+-- words whose marks were tested one by one stand for the machine with these marks
+module _ (words : List ℕ) {s z o c i d halted ready level mark : Bool} where
+  pub tested-marks : halted ≡ isSet (getD words 14 0) →
+      s ≡ isSet (getD words 8 0) →
+      z ≡ isSet (getD words 9 0) →
+      o ≡ isSet (getD words 10 0) →
+      c ≡ isSet (getD words 11 0) →
+      i ≡ isSet (getD words 12 0) →
+      d ≡ isSet (getD words 13 0) →
+      ready ≡ isSet (getD words 15 0) →
+      level ≡ isSet (getD words 16 0) →
+      mark ≡ isSet (getD words 17 0) →
+      record {
+        registers = eight words;
+        flags = record { s = s; z = z; o = o; c = c };
+        switches = record { i = i; d = d };
+        running = record { halted = halted; ready = ready };
+        intrm = record { level = level; mark = mark };
+      }
+      ≡ unpacked words
+  unfolding unpacked
+  tested-marks eh es ez eo ec ei ed er el em =
+      λ t.
+      record {
+        registers = eight words;
+        flags = record { s = es t; z = ez t; o = eo t; c = ec t };
+        switches = record { i = ei t; d = ed t };
+        running = record { halted = eh t; ready = er t };
+        intrm = record { level = el t; mark = em t };
+      }
+
 -- the words of a machine, stored one by one
-pub stored-words : (words : List ℕ) (m : Machine) → stateLength ≤ length words → sets words 0 (eight (m .registers) ++ markWords m) ≡ packed words m
+pub stored-words : (words : List ℕ) (m : Machine) →
+    stateLength ≤ length words →
+    sets words 0 (eight (m .registers) ++ markWords m) ≡ packed words m
 unfolding packed
 stored-words words m h = sets-eq (eight (m .registers) ++ markWords m) words 0 h
 
 -- and what a run reports
-pub stored-run : (out : List ℕ) (x : RunDone) → runLength ≤ length out → sets out 0 (x .steps ∷ x .cycles ∷ x .cause ∷ []) ≡ runWords out x
+pub stored-run : (out : List ℕ) (x : RunDone) →
+    runLength ≤ length out →
+    sets out 0 (x .steps ∷ x .cycles ∷ x .cause ∷ []) ≡ runWords out x
 unfolding runWords
 stored-run out x h = sets-eq (x .steps ∷ x .cycles ∷ x .cause ∷ []) out 0 h
 
 -- and what a region names
-pub stored-region : (out : List ℕ) (l : Longest) (o : Lowest) → regionLength ≤ length out → sets out 0 (getD (longestWords l) 0 0 ∷ getD (longestWords l) 1 0 ∷ getD (longestWords l) 2 0 ∷ getD (lowestWords o) 0 0 ∷ getD (lowestWords o) 1 0 ∷ []) ≡ regionWords out l o
+pub stored-region : (out : List ℕ) (l : Longest) (o : Lowest) →
+    regionLength ≤ length out →
+    let waits : ℕ → ℕ = λ n. getD (longestWords l) n 0 in
+    let overs : ℕ → ℕ = λ n. getD (lowestWords o) n 0 in
+    sets out 0 (waits 0 ∷ waits 1 ∷ waits 2 ∷ overs 0 ∷ overs 1 ∷ []) ≡ regionWords out l o
 unfolding regionWords
 stored-region out noWait noOver h = sets-eq (0 ∷ 0 ∷ 0 ∷ 0 ∷ 0 ∷ []) out 0 h
 stored-region out noWait (overAt b) h = sets-eq (0 ∷ 0 ∷ 0 ∷ 1 ∷ b ∷ []) out 0 h
@@ -39,9 +79,11 @@ stored-region out (longest n a) noOver h = sets-eq (1 ∷ n ∷ a ∷ 0 ∷ 0 �
 stored-region out (longest n a) (overAt b) h = sets-eq (1 ∷ n ∷ a ∷ 1 ∷ b ∷ []) out 0 h
 
 -- and what a listing reports
-pub stored-list : (out : List ℕ) (size words : ℕ) (double : Bool) → listLength ≤ length out → sets out 0 (size ∷ words ∷ flagWord double ∷ []) ≡ listWords out size words double
+pub stored-list : (out : List ℕ) (l : ListedLine) →
+    listLength ≤ length out →
+    sets out 0 (l .length ∷ l .words ∷ flagWord (l .double) ∷ []) ≡ listWords out l
 unfolding listWords
-stored-list out size words double h = sets-eq (size ∷ words ∷ flagWord double ∷ []) out 0 h
+stored-list out l h = sets-eq (l .length ∷ l .words ∷ flagWord (l .double) ∷ []) out 0 h
 
 -- and the words of a line
 module _ (words : List ℕ) (room : lineWords ≤ length words) where

@@ -1,42 +1,34 @@
 -- The C interface page, its table: what the calls of image files answer and leave.
 use Prim.Native.Nat.{ℕ}
-use mathlib.Core.List.{List}
-use Rattle.refusal.specs.Report.{Report, refused, answered}
+use mathlib.Core.Bool.{false}
+use mathlib.Core.List.{List, [], _∷_}
+use Rattle.refusal.specs.Report.{Report}
 use Rattle.image.specs.Load.{Loading, loadOf}
 use Rattle.image.specs.Write.{Writing, writeOf}
 use Rattle.cp1610.specs.Answers.{successWord}
+use Rattle.cp1610.specs.Called.{items, called, CallRule}
 
--- "2^32 + number of records", "2^32 + length": kind 1, unless the number itself has more than 32 bits
-abbrev pub countWord : Report ℕ → ℕ
-countWord (refused n) = n
-countWord (answered n) = successWord 1 n
+-- a call that answers a count and is lent one buffer, by what is reported and left of that: "2^32 + number of records", "2^32 +
+-- length"
+abbrev pub countedCall : List ℕ → Report ℕ → List ℕ → CallRule ℕ
+countedCall before report after =
+    record {
+      short = false;
+      before = items before ∷ [];
+      report = report;
+      success = λ n. called (successWord 1 n) (items after ∷ []);
+    }
 
--- all that a loading leaves: its result and the memory
-pub record LoadCalled : Type 0 where
-  pub result : ℕ
-  pub memory : List ℕ
-
-abbrev pub loadCalled : ℕ → List ℕ → LoadCalled
-loadCalled result memory = record { result = result; memory = memory }
-
-abbrev pub loadHandedBack : Loading → LoadCalled
-loadHandedBack l = loadCalled (countWord (l .answer)) (l .memory)
+abbrev pub loadingCall : List ℕ → Loading → CallRule ℕ
+loadingCall m l = countedCall m (l .answer) (l .memory)
 
 -- document 01's loader
-unfoldable pub loadCall : ℕ → List ℕ → List ℕ → LoadCalled
-loadCall board m file = loadHandedBack (loadOf board m file)
+unfoldable pub loadCall : ℕ → List ℕ → List ℕ → CallRule ℕ
+loadCall board m file = loadingCall m (loadOf board m file)
 
--- all that a writing leaves: its result and the room
-pub record WriteCalled : Type 0 where
-  pub result : ℕ
-  pub room : List ℕ
-
-abbrev pub writeCalled : ℕ → List ℕ → WriteCalled
-writeCalled result room = record { result = result; room = room }
-
-abbrev pub writeHandedBack : Writing → WriteCalled
-writeHandedBack w = writeCalled (countWord (w .answer)) (w .room)
+abbrev pub writingCall : List ℕ → Writing → CallRule ℕ
+writingCall room w = countedCall room (w .answer) (w .room)
 
 -- document 01's writer
-unfoldable pub writeCall : ℕ → List ℕ → ℕ → ℕ → List ℕ → WriteCalled
-writeCall board m first last room = writeHandedBack (writeOf board m first last room)
+unfoldable pub writeCall : ℕ → List ℕ → ℕ → ℕ → List ℕ → CallRule ℕ
+writeCall board m first last room = writingCall room (writeOf board m first last room)

@@ -1,20 +1,33 @@
--- What a caller in C reads from the calls: what document 01 says of the steps and of the run. Proved in `proofs/CallLaws` and
--- `proofs/RunCallLaws`; `Calls` has what holds of every call.
-use Prim.Native.Nat.{ℕ, _/_, _%_, _≤_}
+-- What a caller in C reads from the calls: what document 01's definitions answer. Proved in `proofs/AnswerLaws`, `proofs/ReadLaws` and
+-- `proofs/StepsLaws`; `Calls` has what holds of every refused call.
+use Prim.Native.Nat.{ℕ, zero, suc, _≤_}
 use mathlib.Core.Path.{_≡_}
-use mathlib.Core.Bool.{cond}
 use mathlib.Core.List.{List, [], _∷_, map}
-use lib.ListN.{length, getD, drop}
-use Rattle.refusal.specs.Report.{Report, refused, answered}
-use Rattle.memory.specs.Bus.{Bus}
+use lib.ListN.{length, take, drop}
+use Rattle.refusal.specs.Report.{UnlessRefused}
+use Rattle.memory.specs.Bus.{Bus, readOf}
 use Rattle.cpu.specs.Machine.{Machine}
-use Rattle.cpu.specs.Answer.{StepDone, done}
-use Rattle.cpu.specs.Step.{Outcome, stepOf}
 use Rattle.cpu.specs.Steps.{StepMade, stepsFrom}
-use Rattle.run.specs.Run.{RunDone, RunOutcome, runOf}
-use Rattle.cp1610.specs.Words.{stateLength, unpacked, packed, linesOf}
-use Rattle.cp1610.specs.Answers.{isRefusal, runLength}
-use Rattle.cp1610.specs.Call.{Called, RunCalled, stepCall, runCall}
+use Rattle.listing.specs.Answer.{ListedLine}
+use Rattle.listing.specs.Disassemble.{textAt, Disassembly}
+use Rattle.cp1610.specs.Words.{stateLength, isSet, unpacked, packed, linesOf}
+use Rattle.cp1610.specs.Called.{Called, callBy}
+use Rattle.cp1610.specs.Answers.{runLength}
+use Rattle.cp1610.specs.Call.{stepCall}
+use Rattle.cp1610.specs.MeterCall.{regionLength}
+use Rattle.cp1610.specs.ListingCall.{lineWords, listLength}
+use Rattle.cp1610.specs.Calls.{
+  Call,
+  cp1610-reset,
+  cp1610-step,
+  cp1610-run,
+  cp1610-wait,
+  cp1610-region,
+  cp1610-list,
+  cp1610-assemble,
+  callOf,
+}
+use Rattle.cp1610.specs.Read.{itemsIn, memoryIn, readStep, readListing, answerTo, readBack, WellLent}
 
 -- unpacking what was packed gives the machine back; it has eight registers, as every state's array has
 abbrev pub UnpacksPacked : Type 0
@@ -25,48 +38,44 @@ pub record KeepsRest (words : List ℕ) (m : Machine) : Type 0 where
   pub rest : drop stateLength (packed words m) ≡ drop stateLength words
   pub size : stateLength ≤ length words → length (packed words m) ≡ length words
 
--- how a caller reads a result: "the high 32 bits are the kind, the low 32 the value"
-abbrev pub readResult : ℕ → Report StepDone
-readResult result = cond (isRefusal result) (refused result) (done (result / 0x100000000) (result % 0x100000000))
+-- what a caller reads from any call is document 01's answer: nothing of it is lost on the way
+abbrev pub ReadsTheAnswer : Type 0
+ReadsTheAnswer = (c : Call) → WellLent c → readBack c (callOf c) ≡ answerTo c
 
--- how a caller reads a call of a step
-abbrev pub readCall : Called → Outcome
-readCall c = record { machine = unpacked (c .state); answer = readResult (c .result); bus = c .bus }
+-- a line's text is the first bytes of its room, as many as `out` says
+abbrev pub HasText : List ℕ → Disassembly → Type 0
+HasText line x = UnlessRefused (λ (l : ListedLine). take (l .length) (x .room) ≡ line) (x .answer)
 
--- a call is document 01's step: nothing of it is lost on the way
-abbrev pub CallIsStep : Type 0
-CallIsStep =
-    (words : List ℕ) (b : Bus) (lines : ℕ) →
-    stateLength ≤ length words →
-    readCall (stepCall words b lines) ≡ stepOf (unpacked words) b (linesOf lines)
+abbrev pub ReadsTheText : Type 0
+ReadsTheText =
+    (mem : Bus) (address d : ℕ) (text out : List ℕ) →
+    WellLent (cp1610-list mem address d text out) →
+    HasText (textAt (readOf mem) address (isSet d)) (readListing (callOf (cp1610-list mem address d text out)))
 
--- calls one after the other with the same buffers, one for each of the numbers that stand for lines
+-- the premise can be met: each function that has one, with the shortest buffers that are long enough
+abbrev pub blank : ℕ → List ℕ
+blank zero = []
+blank (suc n) = 0 ∷ blank n
+
+pub record ShortestAreWellLent : Type 0 where
+  pub reset : WellLent (cp1610-reset (blank stateLength))
+  pub step : (mem : Bus) (lines : ℕ) → WellLent (cp1610-step (blank stateLength) mem lines)
+  pub run : (mem : Bus) (lines budget : ℕ) → WellLent (cp1610-run (blank stateLength) mem lines budget (blank runLength))
+  pub wait : (mem : Bus) (limit : ℕ) → WellLent (cp1610-wait mem 65535 limit)
+  pub region : (mem : Bus) (first last limit : ℕ) → WellLent (cp1610-region mem first last limit (blank regionLength))
+  pub list : (mem : Bus) (address d : ℕ) (text : List ℕ) → WellLent (cp1610-list mem address d text (blank listLength))
+  pub assemble : (line : List ℕ) (d : ℕ) → WellLent (cp1610-assemble line d (blank lineWords))
+
+-- calls of a step one after the other with the same buffers, one for each of the numbers that stand for lines
 unfoldable pub callsFrom : List ℕ → Bus → List ℕ → List Called
 callsFrom words b [] = []
 callsFrom words b (n ∷ ns) =
-    stepCall words b n ∷ callsFrom (stepCall words b n .state) (stepCall words b n .bus) ns
+    let c : Called = callBy (stepCall words b n) in
+    c ∷ callsFrom (itemsIn c 0) (memoryIn c 1) ns
 
 -- a caller who keeps calling makes the list of steps
 abbrev pub CallsAreSteps : Type 0
 CallsAreSteps =
     (words : List ℕ) (b : Bus) (ns : List ℕ) →
     stateLength ≤ length words →
-    map readCall (callsFrom words b ns) ≡ map (λ (x : StepMade). x .left) (stepsFrom (unpacked words) b (map linesOf ns))
-
--- how a caller reads a run's report: "out = steps, cycles, cause"
-abbrev pub readReport : ℕ → List ℕ → Report RunDone
-readReport result out =
-    cond (isRefusal result) (refused result)
-    (answered (record { steps = getD out 0 0; cycles = getD out 1 0; cause = getD out 2 0 }))
-
--- how a caller reads a call of a run
-abbrev pub readRun : RunCalled → RunOutcome
-readRun c = record { machine = unpacked (c .state); answer = readReport (c .result) (c .out); bus = c .bus }
-
--- a call is document 01's run: nothing of it is lost on the way
-abbrev pub CallIsRun : Type 0
-CallIsRun =
-    (words : List ℕ) (b : Bus) (lines budget : ℕ) (out : List ℕ) →
-    stateLength ≤ length words →
-    runLength ≤ length out →
-    readRun (runCall words b lines budget out) ≡ runOf (unpacked words) b (linesOf lines) budget
+    map readStep (callsFrom words b ns) ≡ map (λ (x : StepMade). x .left) (stepsFrom (unpacked words) b (map linesOf ns))

@@ -1,14 +1,14 @@
 -- The C interface page, its table: what the calls of the wait meter answer and leave.
 use Prim.Native.Nat.{ℕ}
-use mathlib.Core.Bool.{cond}
+use mathlib.Core.Bool.{false}
 use mathlib.Core.List.{List, [], _∷_, _++_}
 use lib.ListN.{drop}
 use Rattle.refusal.specs.Report.{Report, refused, answered}
 use Rattle.memory.specs.Bus.{Bus}
 use Rattle.meter.specs.Answer.{Answer, wait, over, halts, unspecified, Longest, noWait, longest, Lowest, noOver, overAt, Named}
 use Rattle.meter.specs.Meter.{waitOf, regionOf}
-use Rattle.cp1610.specs.Answers.{shortBuffer, successWord}
-use Rattle.cp1610.specs.Call.{isShort}
+use Rattle.cp1610.specs.Answers.{successWord}
+use Rattle.cp1610.specs.Called.{items, called, isShort, CallRule}
 
 -- "kind 1 Wait (value = cycles), 2 Over, 3 Halts, 4 Unspecified (value = address)"
 abbrev pub walkedWord : Answer → ℕ
@@ -21,9 +21,15 @@ abbrev pub waitWord : Report Answer → ℕ
 waitWord (refused n) = n
 waitWord (answered a) = walkedWord a
 
--- document 01's wait meter for an address
-unfoldable pub waitCall : Bus → ℕ → ℕ → ℕ
-waitCall b address limit = waitWord (waitOf b address limit)
+-- document 01's wait meter for an address: nothing is written
+unfoldable pub waitCall : Bus → ℕ → ℕ → CallRule Answer
+waitCall b address limit =
+    record {
+      short = false;
+      before = [];
+      report = waitOf b address limit;
+      success = λ a. called (walkedWord a) [];
+    }
 
 -- "out = has wait, longest, its start, has over, over start (0 where there is none)"
 abbrev pub regionLength : ℕ
@@ -41,21 +47,12 @@ lowestWords (overAt start) = 1 ∷ start ∷ []
 unfoldable pub regionWords : List ℕ → Longest → Lowest → List ℕ
 regionWords out l o = longestWords l ++ lowestWords o ++ drop regionLength out
 
--- all that a call leaves which takes a buffer for its report: its result and `out`
-pub record OutCalled : Type 0 where
-  pub result : ℕ
-  pub out : List ℕ
-
-abbrev pub outCalled : ℕ → List ℕ → OutCalled
-outCalled result out = record { result = result; out = out }
-
--- a region as the caller sees it: "kind 1"; a refused call leaves `out` as it is
-abbrev pub regionHandedBack : List ℕ → Report Named → OutCalled
-regionHandedBack out (refused n) = outCalled n out
-regionHandedBack out (answered n) =
-    outCalled (successWord 1 0) (regionWords out (n .longest-wait) (n .lowest-over))
-
--- document 01's wait meter for a region
-unfoldable pub regionCall : Bus → ℕ → ℕ → ℕ → List ℕ → OutCalled
+-- document 01's wait meter for a region: "kind 1"
+unfoldable pub regionCall : Bus → ℕ → ℕ → ℕ → List ℕ → CallRule Named
 regionCall b first last limit out =
-    cond (isShort regionLength out) (outCalled shortBuffer out) (regionHandedBack out (regionOf b first last limit))
+    record {
+      short = isShort regionLength out;
+      before = items out ∷ [];
+      report = regionOf b first last limit;
+      success = λ n. called (successWord 1 0) (items (regionWords out (n .longest-wait) (n .lowest-over)) ∷ []);
+    }

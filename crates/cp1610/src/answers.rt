@@ -73,7 +73,8 @@ fn cause_number(cause: Cause) -> u32
 // What a run reports, written over the first three items.
 pub(crate) fn put_run(out: &mut [u32], steps: u32, cycles: u32, cause: Cause)
     requires { ⌜ runLength ≤ length (now out) ⌝ }
-    ensures { λ r. ⌜ now (out .exit) ≡ runWords (now (out .entry)) (record { steps = steps; cycles = cycles; cause = causeNumber cause }) ⌝ }
+    ensures { λ r. ⌜ now (out .exit)
+        ≡ runWords (now (out .entry)) (record { steps = steps; cycles = cycles; cause = causeNumber cause }) ⌝ }
 {
     out[0] = steps;
     out[1] = cycles;

@@ -1,11 +1,21 @@
 // The C interface: the functions of libcp1610.a. Each takes the caller's words, calls the proved function and hands its answer
 // back as words. docs/C-INTERFACE.md is the page for callers.
 ghost use mathlib.Core.Path.{_≡_};
+ghost use mathlib.Core.List.{[], _∷_};
 ghost use Rattle.memory.specs.Bus.{busOf};
-ghost use Rattle.cp1610.specs.Call.{stateCalled, called, runCalled, resetCall, stepCall, runCall};
-ghost use Rattle.cp1610.specs.MeterCall.{waitCall, outCalled, regionCall};
-ghost use Rattle.cp1610.specs.ImageCall.{loadCalled, loadCall, writeCalled, writeCall};
-ghost use Rattle.cp1610.specs.ListingCall.{assembleCalled, assembleCall, listCalled, listCall};
+ghost use Rattle.cp1610.specs.Called.{items, memory, called};
+ghost use Rattle.cp1610.specs.Calls.{
+  callOf,
+  cp1610-reset,
+  cp1610-step,
+  cp1610-run,
+  cp1610-wait,
+  cp1610-region,
+  cp1610-list,
+  cp1610-assemble,
+  cp1610-load,
+  cp1610-write,
+};
 use image::LoadAnswer;
 use image::WriteAnswer;
 use listing::Listing;
@@ -20,7 +30,7 @@ mod words;
 // The state that a machine starts from.
 #[no_mangle]
 pub extern "C" fn cp1610_reset(state: &mut [u16]) -> u64
-    ensures { λ r. ⌜ stateCalled r (now (state .exit)) ≡ resetCall (now (state .entry)) ⌝ }
+    ensures { λ r. ⌜ called r (items (now (state .exit)) ∷ []) ≡ callOf (cp1610-reset (now (state .entry))) ⌝ }
 {
     if state.len() < words::STATE_LENGTH {
         return answers::SHORT_BUFFER;
@@ -33,7 +43,8 @@ pub extern "C" fn cp1610_reset(state: &mut [u16]) -> u64
 // run's, so that the library holds the processor's step once.
 #[no_mangle]
 pub extern "C" fn cp1610_step(state: &mut [u16], mem: &mut [u16], lines: u32) -> u64
-    ensures { λ r. ⌜ called r (now (state .exit)) (busOf (now (mem .exit))) ≡ stepCall (now (state .entry)) (busOf (now (mem .entry))) lines ⌝ }
+    ensures { λ r. ⌜ called r (items (now (state .exit)) ∷ memory (busOf (now (mem .exit))) ∷ [])
+        ≡ callOf (cp1610-step (now (state .entry)) (busOf (now (mem .entry))) lines) ⌝ }
 {
     if state.len() < words::STATE_LENGTH {
         return answers::SHORT_BUFFER;
@@ -59,7 +70,8 @@ pub extern "C" fn cp1610_run(
     budget: u32,
     out: &mut [u32],
 ) -> u64
-    ensures { λ r. ⌜ runCalled r (now (state .exit)) (busOf (now (mem .exit))) (now (out .exit)) ≡ runCall (now (state .entry)) (busOf (now (mem .entry))) lines budget (now (out .entry)) ⌝ }
+    ensures { λ r. ⌜ called r (items (now (state .exit)) ∷ memory (busOf (now (mem .exit))) ∷ items (now (out .exit)) ∷ [])
+        ≡ callOf (cp1610-run (now (state .entry)) (busOf (now (mem .entry))) lines budget (now (out .entry))) ⌝ }
 {
     if state.len() < words::STATE_LENGTH {
         return answers::SHORT_BUFFER;
@@ -87,7 +99,7 @@ pub extern "C" fn cp1610_run(
 // The wait meter for an address.
 #[no_mangle]
 pub extern "C" fn cp1610_wait(mem: &[u16], address: u16, limit: u16) -> u64
-    ensures { λ r. ⌜ r ≡ waitCall (busOf (now (mem .entry))) address limit ⌝ }
+    ensures { λ r. ⌜ called r [] ≡ callOf (cp1610-wait (busOf (now (mem .entry))) address limit) ⌝ }
 {
     meter_words::wait_word(meter::wait(mem, address, limit))
 }
@@ -101,7 +113,8 @@ pub extern "C" fn cp1610_region(
     limit: u16,
     out: &mut [u32],
 ) -> u64
-    ensures { λ r. ⌜ outCalled r (now (out .exit)) ≡ regionCall (busOf (now (mem .entry))) first last limit (now (out .entry)) ⌝ }
+    ensures { λ r. ⌜ called r (items (now (out .exit)) ∷ [])
+        ≡ callOf (cp1610-region (busOf (now (mem .entry))) first last limit (now (out .entry))) ⌝ }
 {
     if out.len() < meter_words::REGION_LENGTH {
         return answers::SHORT_BUFFER;
@@ -125,7 +138,8 @@ pub extern "C" fn cp1610_list(
     text: &mut [u8],
     out: &mut [u32],
 ) -> u64
-    ensures { λ r. ⌜ listCalled r (now (text .exit)) (now (out .exit)) ≡ listCall (busOf (now (mem .entry))) address d (now (text .entry)) (now (out .entry)) ⌝ }
+    ensures { λ r. ⌜ called r (items (now (text .exit)) ∷ items (now (out .exit)) ∷ [])
+        ≡ callOf (cp1610-list (busOf (now (mem .entry))) address d (now (text .entry)) (now (out .entry))) ⌝ }
 {
     if out.len() < listing_words::LIST_LENGTH {
         return answers::SHORT_BUFFER;
@@ -147,7 +161,8 @@ pub extern "C" fn cp1610_list(
 // The words of a line.
 #[no_mangle]
 pub extern "C" fn cp1610_assemble(line: &[u8], d: u8, words: &mut [u16]) -> u64
-    ensures { λ r. ⌜ assembleCalled r (now (words .exit)) ≡ assembleCall (now (line .entry)) d (now (words .entry)) ⌝ }
+    ensures { λ r. ⌜ called r (items (now (words .exit)) ∷ [])
+        ≡ callOf (cp1610-assemble (now (line .entry)) d (now (words .entry))) ⌝ }
 {
     if words.len() < listing_words::LINE_WORDS {
         return answers::SHORT_BUFFER;
@@ -158,7 +173,8 @@ pub extern "C" fn cp1610_assemble(line: &[u8], d: u8, words: &mut [u16]) -> u64
 // Loads an image file.
 #[no_mangle]
 pub extern "C" fn cp1610_load(board: u16, mem: &mut [u16], file: &[u8]) -> u64
-    ensures { λ r. ⌜ loadCalled r (now (mem .exit)) ≡ loadCall board (now (mem .entry)) (now (file .entry)) ⌝ }
+    ensures { λ r. ⌜ called r (items (now (mem .exit)) ∷ [])
+        ≡ callOf (cp1610-load board (now (mem .entry)) (now (file .entry))) ⌝ }
 {
     let answer = image::load(board, mem, file);
     match answer {
@@ -176,7 +192,8 @@ pub extern "C" fn cp1610_write(
     last: u16,
     room: &mut [u8],
 ) -> u64
-    ensures { λ r. ⌜ writeCalled r (now (room .exit)) ≡ writeCall board (now (mem .entry)) first last (now (room .entry)) ⌝ }
+    ensures { λ r. ⌜ called r (items (now (room .exit)) ∷ [])
+        ≡ callOf (cp1610-write board (now (mem .entry)) first last (now (room .entry))) ⌝ }
 {
     let answer = image::write(board, mem, first, last, room);
     match answer {

@@ -12,7 +12,9 @@ returns c = rw (lt-ltb _ _ (c .if1 .taken))
 returns-2 : tie.Need-returns-2
 unfolding assembleCall
 returns-2 c =
-    rw (le-ltb _ _ (c .before .before .before .before .before .if1 .left), ← c .before .before .before .assemble .ensures) (c .before .before .put-assembly .ensures)
+    let putting = c .before .before in
+    let asked = putting .before in
+    rw (le-ltb _ _ (asked .before .before .if1 .left), ← asked .assemble .ensures) (putting .put-assembly .ensures)
 
 pub cp1610-assemble-spec : {M : Type 1} → statement M
 cp1610-assemble-spec =

@@ -11,12 +11,28 @@ returns c = rw (lt-ltb _ _ (c .if1 .taken))
 
 returns-2 : tie.Need-returns-2
 unfolding regionCall
-returns-2 c = rw (le-ltb _ _ (c .before .before .before .before .before .if1 .left), ← c .before .before .before .before .region .ensures, c .before .before .answer .given .1, c .number .ensures)
+returns-2 c =
+    let asked = c .before .before .before .before in
+    rw (
+      le-ltb _ _ (asked .before .if1 .left),
+      ← asked .region .ensures,
+      c .before .before .answer .given .1,
+      c .number .ensures,
+    )
 
 returns-3 : tie.Need-returns-3
 unfolding regionCall
 returns-3 c =
-    rw (c .success .ensures, c .before .before .before .put-region .ensures, le-ltb _ _ (c .before .before .before .before .before .before .before .before .before .if1 .left), ← c .before .before .before .before .before .before .before .before .region .ensures, c .before .before .before .before .before .before .answer2 .given .1)
+    let putting = c .before .before .before in
+    let answering = putting .before .before .before in
+    let asked = answering .before .before in
+    rw (
+      c .success .ensures,
+      putting .put-region .ensures,
+      le-ltb _ _ (asked .before .if1 .left),
+      ← asked .region .ensures,
+      answering .answer2 .given .1,
+    )
 
 pub cp1610-region-spec : {M : Type 1} → statement M
 cp1610-region-spec =

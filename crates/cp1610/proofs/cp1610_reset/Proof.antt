@@ -1,6 +1,7 @@
 -- `cp1610_reset`: a short state is refused, and else the reset state is packed.
-use borrow.Author.Tests.{lt-ltb, le-ltb}
+use borrow.Author.Tests.{lt-ltb}
 use Rattle.cp1610.specs.Call.{resetCall}
+use Rattle.cp1610.proofs.EndLaws.{reset-ends}
 use borrow.Author.Needs.{needs}
 use Rattle.cp1610.proofs.cp1610_reset.Statement.{statement}
 use Rattle.cp1610.proofs.cp1610_reset.Tie as tie
@@ -10,8 +11,9 @@ unfolding resetCall
 returns c = rw (lt-ltb _ _ (c .if1 .taken))
 
 returns-2 : tie.Need-returns-2
-unfolding resetCall
-returns-2 c = rw (c .success .ensures, c .before .before .before .pack .ensures, c .before .before .before .before .reset .ensures, le-ltb _ _ (c .before .before .before .before .before .before .if1 .left))
+returns-2 c =
+    let packing = c .before .before .before in
+    rw (c .success .ensures, packing .pack .ensures) (reset-ends _ _ (search needs) (search needs))
 
 pub cp1610-reset-spec : {M : Type 1} → statement M
 cp1610-reset-spec =

@@ -1,6 +1,7 @@
 -- `cp1610_run`: a short buffer is refused; else the definition is rewritten back to what was unpacked, run and answered.
 use borrow.Author.Tests.{lt-ltb, le-ltb}
 use Rattle.cp1610.specs.Call.{runCall}
+use Rattle.cp1610.proofs.EndLaws.{run-kept}
 use borrow.Author.Needs.{needs}
 use Rattle.cp1610.proofs.cp1610_run.Statement.{statement}
 use Rattle.cp1610.proofs.cp1610_run.Tie as tie
@@ -16,12 +17,39 @@ returns-2 c = rw (le-ltb _ _ (c .before .if1 .left), lt-ltb _ _ (c .if2 .taken))
 returns-3 : tie.Need-returns-3
 unfolding runCall
 returns-3 c =
-    rw (le-ltb _ _ (c .before .before .before .before .before .before .before .before .before .before .before .before .if1 .left), le-ltb _ _ (c .before .before .before .before .before .before .before .before .before .before .before .if2 .left), ← c .before .before .before .before .before .before .before .before .before .unpack .ensures, ← c .before .before .before .before .before .before .before .lines-of .ensures, ← c .before .before .before .before .before .before .run .ensures, c .before .before .answer .given .1, c .number .ensures)
+    let asked = c .before .before .before .before .before .before in
+    let unpacking = asked .before .before .before in
+    let tested = unpacking .before .before in
+    let ran = rw (unpacking .unpack .ensures, asked .before .lines-of .ensures) at (asked .run .ensures) in
+    let given = c .before .before .answer .given .1 in
+    rw (
+      le-ltb _ _ (tested .before .if1 .left),
+      le-ltb _ _ (tested .if2 .left),
+      ← ran,
+      given,
+      c .number .ensures,
+      run-kept _ _ _ _ (asked .run .result) _ _ ran given,
+    )
 
 returns-4 : tie.Need-returns-4
 unfolding runCall
 returns-4 c =
-    rw (c .success .ensures, c .before .before .before .put-run .ensures, c .before .before .before .before .before .before .before .pack .ensures, le-ltb _ _ (c .before .before .before .before .before .before .before .before .before .before .before .before .before .before .before .before .before .before .before .before .before .if1 .left), le-ltb _ _ (c .before .before .before .before .before .before .before .before .before .before .before .before .before .before .before .before .before .before .before .before .if2 .left), ← c .before .before .before .before .before .before .before .before .before .before .before .before .before .before .before .before .before .before .unpack .ensures, ← c .before .before .before .before .before .before .before .before .before .before .before .before .before .before .before .before .lines-of .ensures, ← c .before .before .before .before .before .before .before .before .before .before .before .before .before .before .before .run .ensures, c .before .before .before .before .before .before .before .before .before .before .before .answer2 .given .1)
+    let putting = c .before .before .before in
+    let packing = putting .before .before .before .before in
+    let answering = packing .before .before .before .before in
+    let asked = answering .before .before .before .before in
+    let unpacking = asked .before .before .before in
+    let tested = unpacking .before .before in
+    let ran = rw (unpacking .unpack .ensures, asked .before .lines-of .ensures) at (asked .run .ensures) in
+    rw (
+      c .success .ensures,
+      putting .put-run .ensures,
+      packing .pack .ensures,
+      le-ltb _ _ (tested .before .if1 .left),
+      le-ltb _ _ (tested .if2 .left),
+      ← ran,
+      answering .answer2 .given .1,
+    )
 
 pub cp1610-run-spec : {M : Type 1} → statement M
 cp1610-run-spec =

@@ -11,8 +11,8 @@ slice-write-out-2 c = simp length-set (omega arith)
 
 returns : tie.Need-returns
 returns c =
-    let start = c in
-    simp cast-flag (stored-list (start .args .out .now) (start .args .size) (start .args .words) (start .args .double) (start .pre))
+    let a = c .args in
+    simp cast-flag (stored-list (a .out .now) (record { length = a .size; words = a .words; double = a .double }) (c .pre))
 
 pub put-listing-spec : {M : Type 1} → statement M
 put-listing-spec =

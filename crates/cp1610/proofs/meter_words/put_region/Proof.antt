@@ -19,7 +19,9 @@ slice-write-out-4 c = simp length-set (omega arith)
 returns : tie.Need-returns
 returns c =
     let start = c .before .before .before in
-    rw (c .lowest-words .ensures, c .before .longest-words .ensures) (stored-region (start .args .out .now) (longestOf (start .args .longest)) (lowestOf (start .args .lowest)) (start .pre))
+    let a = start .args in
+    rw (c .lowest-words .ensures, c .before .longest-words .ensures)
+    (stored-region (a .out .now) (longestOf (a .longest)) (lowestOf (a .lowest)) (start .pre))
 
 pub put-region-spec : {M : Type 1} → statement M
 put-region-spec =

@@ -1,0 +1,203 @@
+-- What a caller reads from a call is document 01's answer, call by call.
+use Prim.Native.Nat.{ℕ, _≤_}
+use mathlib.Core.Path.{_≡_, refl, sym, subst}
+use mathlib.Core.Bool.{Bool}
+use mathlib.Core.List.{List, [], _∷_}
+use native.Mathlib.Omega.{arith}
+use borrow.Author.Tests.{le-ltb}
+use lib.Dec.{ltb, lit≤, lit<}
+use lib.ListN.{length, drop}
+use lib.Seq.{take-at}
+use Rattle.word.proofs.Choice.{cond-both}
+use Rattle.memory.specs.Bus.{Bus, readOf, admissionOf}
+use Rattle.memory.proofs.BusLaws.{unless-both}
+use Rattle.refusal.specs.Report.{Report, answered}
+use Rattle.cpu.specs.Machine.{Machine, resetMachine}
+use Rattle.cpu.specs.Step.{Outcome, stepOf}
+use Rattle.run.specs.Run.{RunOutcome, runOf}
+use Rattle.meter.specs.Answer.{Answer, wait, over, halts, unspecified, Longest, noWait, longest, Lowest, noOver, overAt, Named}
+use Rattle.listing.specs.Disassemble.{textAt, Disassembly, listedDisassembly, disassembleOf}
+use Rattle.cp1610.specs.Words.{stateLength, isSet, unpacked, linesOf}
+use Rattle.cp1610.specs.Answers.{successWord, runLength, runWords}
+use Rattle.cp1610.specs.Called.{items, Called, called, callBy}
+use Rattle.cp1610.specs.Call.{resetCall, stepCall, runCall}
+use Rattle.cp1610.specs.MeterCall.{walkedWord, waitCall, regionLength, regionWords, regionCall}
+use Rattle.cp1610.specs.ListingCall.{lineWords, assembleCall, listLength, listWords, listCall}
+use Rattle.cp1610.specs.ImageCall.{countedCall, loadCall, writeCall}
+use Rattle.cp1610.specs.Calls.{
+  cp1610-reset,
+  cp1610-step,
+  cp1610-run,
+  cp1610-wait,
+  cp1610-region,
+  cp1610-list,
+  cp1610-assemble,
+  cp1610-load,
+  cp1610-write,
+}
+use Rattle.cp1610.specs.Read.{
+  itemsIn,
+  countIn,
+  readReport,
+  readMachine,
+  readStep,
+  readRun,
+  readWalk,
+  readNamed,
+  readListing,
+  readAssembled,
+}
+use Rattle.cp1610.specs.Laws.{ReadsTheAnswer, HasText, ReadsTheText, ShortestAreWellLent}
+use Rattle.cp1610.proofs.AnswerLaws.{set-flag, unpacks-packed, success-high, success-kind, success-value, success-count}
+use Rattle.cp1610.proofs.RuleLaws.{Told, by-told}
+use Rattle.cp1610.proofs.ReportLaws.{
+  told-step,
+  told-run,
+  Fits,
+  told-wait,
+  told-region,
+  told-listing,
+  told-assembly,
+  told-loading,
+  told-writing,
+}
+
+-- reset
+read-reset : (state : List ℕ) →
+    stateLength ≤ length state →
+    readReport readMachine (callBy (resetCall state)) ≡ answered resetMachine
+unfolding resetCall resetMachine
+read-reset state h =
+    by-told Unit (λ (m : Machine). length (m .registers) ≡ 8) (resetCall state) (λ r c. readReport readMachine c ≡ r)
+    (le-ltb (length state) stateLength h) refl
+    (λ n low k. rw low)
+    (λ m e. rw (success-high 1 0 (lit≤ tt), unpacks-packed state m e))
+
+-- step
+pub read-step : (state : List ℕ) (mem : Bus) (lines : ℕ) →
+    stateLength ≤ length state →
+    readStep (callBy (stepCall state mem lines)) ≡ stepOf (unpacked state) mem (linesOf lines)
+unfolding stepCall unpacked
+read-step state mem lines h =
+    let o : Outcome = stepOf (unpacked state) mem (linesOf lines) in
+    by-told _ _ (stepCall state mem lines)
+    (λ r c. readStep c ≡ record { machine = o .machine; answer = r; bus = o .bus })
+    (le-ltb (length state) stateLength h) (told-step (unpacked state) mem (linesOf lines) refl)
+    (λ n low k. rw (low, k .0, k .1))
+    (λ x k.
+    rw (
+      success-high (x .kind) (x .cycles) (k .0),
+      success-kind (x .kind) (x .cycles) (k .1),
+      success-value (x .kind) (x .cycles) (k .1),
+      unpacks-packed state (o .machine) (k .2),
+    ))
+
+-- run
+read-run : (state : List ℕ) (mem : Bus) (lines budget : ℕ) (out : List ℕ) →
+    stateLength ≤ length state →
+    runLength ≤ length out →
+    readRun (callBy (runCall state mem lines budget out)) ≡ runOf (unpacked state) mem (linesOf lines) budget
+unfolding runCall unpacked runWords
+read-run state mem lines budget out h k =
+    let o : RunOutcome = runOf (unpacked state) mem (linesOf lines) budget in
+    by-told _ _ (runCall state mem lines budget out)
+    (λ r c. readRun c ≡ record { machine = o .machine; answer = r; bus = o .bus })
+    (rw (le-ltb (length state) stateLength h, le-ltb (length out) runLength k))
+    (told-run (unpacked state) mem (linesOf lines) budget refl)
+    (λ n low t. rw (low, t .0, t .1))
+    (λ x e. rw (success-high 1 0 (lit≤ tt), unpacks-packed state (o .machine) e))
+
+-- wait
+read-walked : (a : Answer) → Fits a → readReport readWalk (called (walkedWord a) []) ≡ answered a
+read-walked (wait n) h = rw (success-high 1 n (lit≤ tt), success-kind 1 n h, success-value 1 n h)
+read-walked over h = rw (success-high 2 0 (lit≤ tt), success-kind 2 0 (lit< tt))
+read-walked halts h = rw (success-high 3 0 (lit≤ tt), success-kind 3 0 (lit< tt))
+read-walked (unspecified a) h = rw (success-high 4 a (lit≤ tt), success-kind 4 a h, success-value 4 a h)
+
+-- region
+read-named : (out : List ℕ) (l : Longest) (o : Lowest) →
+    readNamed (called (successWord 1 0) (items (regionWords out l o) ∷ [])) ≡ record { longest-wait = l; lowest-over = o }
+unfolding regionWords
+read-named out noWait noOver = refl
+read-named out noWait (overAt start) = refl
+read-named out (longest n start) noOver = refl
+read-named out (longest n start) (overAt over-start) = refl
+
+-- list
+read-listing : (mem : Bus) (address d : ℕ) (text out : List ℕ) →
+    listLength ≤ length out →
+    readListing (callBy (listCall mem address d text out)) ≡ disassembleOf mem address (isSet d) text
+unfolding listCall listWords
+read-listing mem address d text out h =
+    let x : Disassembly = disassembleOf mem address (isSet d) text in
+    by-told _ _ (listCall mem address d text out) (λ r c. readListing c ≡ record { answer = r; room = x .room })
+    (le-ltb (length out) listLength h) (told-listing mem address (isSet d) text)
+    (λ n low k. rw (low, k))
+    (λ l k. rw (success-high 1 0 (lit≤ tt), set-flag (l .double)))
+
+listed-text : (b : Bus) (at : ℕ) (double : Bool) (room : List ℕ) →
+    HasText (textAt (readOf b) at double) (disassembleOf b at double room)
+unfolding disassembleOf listedDisassembly
+listed-text b at double room =
+    let line = textAt (readOf b) at double in
+    unless-both (HasText line) (admissionOf b) (λ r. tt)
+    (cond-both (HasText line) (ltb (length room) 16) tt (take-at line (drop (length line) room) (length line) refl))
+
+pub reads-the-text : ReadsTheText
+reads-the-text mem address d text out h =
+    subst (HasText (textAt (readOf mem) address (isSet d))) (sym (read-listing mem address d text out h))
+    (listed-text mem address (isSet d) text)
+
+-- load and write: a count, and what is left of the one buffer
+read-counted : {O : Type 0} (outcome : Report ℕ → List ℕ → O) (before after : List ℕ) (most : ℕ) (report : Report ℕ) →
+    Told (after ≡ before) (λ n. n ≤ most) report →
+    let c : Called = callBy (countedCall before report after) in
+    outcome (readReport countIn c) (itemsIn c 0) ≡ outcome report after
+read-counted outcome before after most report told =
+    by-told _ _ (countedCall before report after)
+    (λ r c. outcome (readReport countIn c) (itemsIn c 0) ≡ outcome r after)
+    refl told
+    (λ n low k. rw (low, k))
+    (λ n k. rw (success-high 1 n (lit≤ tt), success-count n))
+
+pub reads-the-answer : ReadsTheAnswer
+unfolding waitCall regionCall assembleCall loadCall writeCall
+reads-the-answer (cp1610-reset state) h = read-reset state h
+reads-the-answer (cp1610-step state mem lines) h = read-step state mem lines h
+reads-the-answer (cp1610-run state mem lines budget out) h = read-run state mem lines budget out (h .0) (h .1)
+reads-the-answer (cp1610-wait mem address limit) h =
+    by-told Unit Fits (waitCall mem address limit) (λ r c. readReport readWalk c ≡ r) refl (told-wait mem address limit h)
+    (λ n low k. rw low)
+    read-walked
+reads-the-answer (cp1610-region mem first last limit out) h =
+    by-told Unit (λ (x : Named). Unit) (regionCall mem first last limit out) (λ r c. readReport readNamed c ≡ r)
+    (le-ltb (length out) regionLength h) (told-region mem first last limit)
+    (λ n low k. rw low)
+    (λ x k. rw (success-high 1 0 (lit≤ tt), read-named out (x .longest-wait) (x .lowest-over)))
+reads-the-answer (cp1610-list mem address d text out) h = read-listing mem address d text out h
+reads-the-answer (cp1610-assemble line d words) h =
+    by-told Unit (λ (ws : List ℕ). length ws ≤ lineWords) (assembleCall line d words) (λ r c. readReport readAssembled c ≡ r)
+    (le-ltb (length words) lineWords h) (told-assembly line (isSet d))
+    (λ n low k. rw low)
+    (λ ws k.
+    rw (
+      success-high 1 (length ws) (lit≤ tt),
+      success-value 1 (length ws) (omega arith),
+      take-at ws (drop (length ws) words) (length ws) refl,
+    ))
+reads-the-answer (cp1610-load board mem file) h =
+    read-counted (λ r m. record { answer = r; memory = m }) _ _ _ _ (told-loading board mem file refl)
+reads-the-answer (cp1610-write board mem first last room) h =
+    read-counted (λ r left. record { answer = r; room = left }) _ _ _ _ (told-writing board mem first last room refl)
+
+pub shortest-are-well-lent : ShortestAreWellLent
+shortest-are-well-lent =
+    record {
+      reset = lit≤ tt;
+      step = λ mem lines. lit≤ tt;
+      run = λ mem lines budget. (lit≤ tt, lit≤ tt);
+      wait = λ mem limit. lit< tt;
+      region = λ mem first last limit. lit≤ tt;
+      list = λ mem address d text. lit≤ tt;
+      assemble = λ line d. lit≤ tt;
+    }
