@@ -1,4 +1,8 @@
 // What the programs that run cases share: the rows of text in which cases are written, the count of cases, and memories compared.
+pub mod answer;
+pub mod bytes;
+pub mod fields;
+pub mod form;
 pub mod tally;
 pub mod text;
 pub mod words;

@@ -5,12 +5,12 @@ use native.Mathlib.Omega.{arith}
 use native.Mathlib.Numerals.{add-one}
 use lib.ListN.{drop}
 use borrow.Author.Needs.{needs}
-use Rattle.harness.specs.Text.{decimalOf}
+use Rattle.harness.specs.Text.{decimalNumber}
 use Rattle.harness.proofs.text.decimal.Statement.{statement}
 use Rattle.harness.proofs.text.decimal.Tie as tie
 
 abbrev Inv-loop : tie.InvT-loop
-Inv-loop row column count digits number₀ i₀ number i = (i ≤ count) × (number ≡ decimalOf i (drop column row))
+Inv-loop row column count digits number₀ i₀ number i = (i ≤ count) × (number ≡ decimalNumber i (drop column row))
 
 abbrev μ-loop : tie.MeasureT-loop
 μ-loop row column count digits number₀ i₀ number i = count - i
@@ -19,7 +19,9 @@ loop-holds : tie.Need-loop-holds Inv-loop μ-loop
 loop-holds c = (omega arith, refl)
 
 loop-again : tie.Need-loop-again Inv-loop μ-loop
-loop-again c = (search needs, rw (add-one, c .digit-at .ensures .0, c .before .before .before .from-column .ensures .0, c .before .before .loop .inv .1))
+loop-again c =
+    let digits = c .before .before .before .from-column in
+    (search needs, rw (add-one, c .digit-at .ensures .0, digits .ensures .0, c .before .before .loop .inv .1))
 
 returns : tie.Need-returns Inv-loop μ-loop
 returns c =

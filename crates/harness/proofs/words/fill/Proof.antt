@@ -29,7 +29,8 @@ loop-again c =
 returns : tie.Need-returns Inv-loop μ-loop
 returns c =
     let k = c .before .loop in
-    fill-whole (k .run) (length (c .before .before .args .run .now)) (c .before .before .args .word) (k .inv .1) (λ j h. k .inv .2 j (omega arith))
+    let a = c .before .before .args in
+    fill-whole (k .run) (length (a .run .now)) (a .word) (k .inv .1) (λ j h. k .inv .2 j (omega arith))
 
 pub fill-spec : {M : Type 1} → statement M
 fill-spec =

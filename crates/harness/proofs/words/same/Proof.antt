@@ -1,5 +1,4 @@
 -- `harness::words::same` meets its contract. The loop's invariant: both runs have one length, and the words before the index are equal.
--- Assumes nothing.
 use Prim.Native.Nat.{ℕ, _≤_, _<_, _-_}
 use mathlib.Core.Path.{_≡_, ap, refl}
 use mathlib.Core.List.{List}

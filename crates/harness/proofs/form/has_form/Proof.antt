@@ -1,0 +1,34 @@
+-- `has_form`: one of the forms, by its letter.
+use Rattle.harness.specs.Forms.{hasForm}
+use borrow.Author.Needs.{needs}
+use Rattle.harness.proofs.form.has_form.Statement.{statement}
+use Rattle.harness.proofs.form.has_form.Tie as tie
+
+returns : tie.Need-returns
+unfolding hasForm
+returns c =
+    let hex = c .before in
+    let number = hex .before .before in
+    let word = number .before .before in
+    rw (
+      word .before .byte-at .ensures,
+      word .is-word .ensures,
+      number .before .is-list .ensures,
+      number .is-number .ensures,
+      hex .before .is-bit .ensures,
+      hex .is-hex .ensures,
+      c .are-letters .ensures,
+    )
+
+pub has-form-spec : {M : Type 1} → statement M
+has-form-spec =
+    tie.close
+    (tie.spec
+    (λ c κs. search needs)
+    (λ c κs. search needs)
+    (λ c κs. search needs)
+    (λ c κs. search needs)
+    (λ c κs. search needs)
+    (λ c κs. search needs)
+    (λ c κs. search needs)
+    returns)

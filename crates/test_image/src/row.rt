@@ -1,0 +1,74 @@
+// The rows of a case: whether they are as the head of `stdin` says, the call that they tell, and its answer.
+use harness::answer;
+use harness::fields;
+use harness::form;
+use harness::words;
+
+// The board, the memory's words, the region, and the room's bytes.
+pub(crate) struct Call {
+    pub board: u16,
+    pub words: usize,
+    pub first: u16,
+    pub last: u16,
+    pub bytes: usize,
+}
+
+// A number of records or a length, or the number of a refusal.
+pub(crate) struct Answer {
+    pub refused: bool,
+    pub number: usize,
+}
+
+pub(crate) fn call_of(before: &[u8]) -> Call {
+    Call {
+        board: fields::word(before, b"board", 2),
+        words: fields::number(before, b"size", 65536) as usize,
+        first: fields::word(before, b"first", 0),
+        last: fields::word(before, b"last", 0),
+        bytes: fields::number(before, b"room", 0) as usize,
+    }
+}
+
+// The answer of a row, in which the number of a call that is not refused has this key.
+pub(crate) fn answer_of(after: &[u8], key: &[u8]) -> Answer {
+    if answer::is_refused(after) {
+        Answer {
+            refused: true,
+            number: fields::number(after, b"number", 0) as usize,
+        }
+    } else {
+        Answer {
+            refused: false,
+            number: fields::number(after, key, 0) as usize,
+        }
+    }
+}
+
+pub(crate) fn is_load(before: &[u8], after: &[u8]) -> bool {
+    let words = fields::number(before, b"size", 65536) as usize;
+    form::fit(
+        before,
+        b"board=word size=number fill=word 0000=list file=hex",
+    )
+        & answer::fit(after, b"loaded", b"answer=any records=number 0000=list")
+        & words::are_inside(before, words)
+        & words::are_inside(after, words)
+}
+
+pub(crate) fn is_write(before: &[u8], after: &[u8]) -> bool {
+    let words = fields::number(before, b"size", 65536) as usize;
+    form::fit(
+        before,
+        b"board=word size=number fill=word 0000=list first=word last=word room=number",
+    )
+        & answer::fit(after, b"written", b"answer=any length=number file=hex")
+        & words::are_inside(before, words)
+}
+
+pub(crate) fn is_trip(before: &[u8], after: &[u8]) -> bool {
+    form::fit(
+        before,
+        b"board=word size=number fill=word first=word last=word room=number",
+    )
+        & answer::fit(after, b"loaded", b"answer=any records=number")
+}

@@ -1,0 +1,2 @@
+-- What the contracts of `test_vectors` cite.
+pub mod Count
