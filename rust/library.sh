@@ -1,7 +1,10 @@
-# Sourced by the scripts beside it, at the repository's root: sees to it that the proved static library is there.
-library=target/staticlib/libcp1610.a
+# Sourced by scripts at the repository's root: makes the proved static library anew from the sources, and names it in `library`, so
+# that a script may then go elsewhere. Where the library can't be made, the script goes no further.
+library=$(pwd)/target/staticlib/libcp1610.a
 
-[ -f "$library" ] || rt staticlib cp1610
-if [ -n "$(find crates -name '*.rt' -newer "$library")" ]; then
-    echo "note: some sources are newer than $library; rt staticlib cp1610 makes it anew" >&2
+mkdir -p target
+echo "making target/staticlib/libcp1610.a" >&2
+if ! rt staticlib cp1610 >target/staticlib.txt 2>&1; then
+    cat target/staticlib.txt >&2
+    exit 1
 fi

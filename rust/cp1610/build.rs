@@ -11,7 +11,18 @@ const USUAL_FOLDER: &str = "target/staticlib";
 
 const LIBRARY: &str = "libcp1610.a";
 
+/// Cargo sets it where the feature `library` is on.
+const LIBRARY_FEATURE: &str = "CARGO_FEATURE_LIBRARY";
+
 fn main() {
+    println!("cargo::rerun-if-changed=build.rs");
+    if env::var_os(LIBRARY_FEATURE).is_some() {
+        link_library();
+    }
+}
+
+/// The script runs again, and the crate is built again, whenever the library was made anew.
+fn link_library() {
     let crate_folder = Path::new(env!("CARGO_MANIFEST_DIR"));
     let usual = || crate_folder.ancestors().nth(2).unwrap_or(crate_folder).join(USUAL_FOLDER);
     let folder = env::var_os(FOLDER_VARIABLE).map_or_else(usual, PathBuf::from);

@@ -1,12 +1,13 @@
 //! What the wrapper adds to the C interface.
 
-use cp1610::{Cause, Event, Lines, Machine, Mark, Refusal, SHORT_BUFFER, STATE_WORDS, calls};
+use cp1610::calls::{self, SHORT_BUFFER};
+use cp1610::{Cause, Event, Lines, Machine, Mark, Refusal, Register, STATE_WORDS};
 
 #[test]
 fn a_machine_shows_and_takes_registers_and_marks() {
     let mut machine = Machine::reset();
-    assert_eq!((machine.register(7), machine.is_set(Mark::Level)), (0x1000, true));
-    machine.set_register(7, 0x0200);
+    assert_eq!((machine.register(Register::R7), machine.is_set(Mark::Level)), (0x1000, true));
+    machine.set_register(Register::R7, 0x0200);
     machine.set(Mark::Level, false);
     machine.set(Mark::Ready, true);
     let mut words = [0; STATE_WORDS];
@@ -25,7 +26,7 @@ fn lines_are_passed_on() {
     for (external, next) in [(0, 2), (1, 7)] {
         let mut machine = at_0.clone();
         machine.step(&mut memory, Lines { external, ..Lines::QUIET }).expect("BEXT is executed");
-        assert_eq!(machine.register(7), next);
+        assert_eq!(machine.register(Register::R7), next);
     }
     let mut ready = at_0.clone();
     ready.set(Mark::Ready, true);

@@ -3,10 +3,10 @@
 use crate::random::Random;
 use crate::reference;
 use crate::scene::Scene;
-use crate::tally::Tally;
+use crate::tally::{Occasion, Tally};
 use crate::twin::Twin;
-use cp1610::calls;
-use kit::RECORD_WORDS;
+use cp1610::{LONGEST_MEMORY, RECORD_WORDS, calls};
+use std::ops::RangeInclusive;
 
 /// An image file in the making, and its sum.
 struct File {
@@ -35,15 +35,24 @@ impl File {
     }
 }
 
-fn any_count(random: &mut Random) -> u16 {
-    let longest = RECORD_WORDS as u64;
-    match random.below(64) {
-        0 => 0,
-        1 => longest as u16,
-        2 => longest as u16 + 1,
-        3 => random.below(longest) as u16,
-        _ => 1 + random.below(4) as u16,
-    }
+/// More than a few records, up to as many as a file of a whole memory has.
+const MANY_RECORDS: RangeInclusive<u32> = 4..=(LONGEST_MEMORY / RECORD_WORDS) as u32;
+
+fn any_record_count(random: &mut Random) -> u32 {
+    if random.one_in(16) { random.within(MANY_RECORDS) } else { random.within(0..=MANY_RECORDS.start() - 1) }
+}
+
+/// How many words a record has, on both sides of the edges where it may be refused.
+fn any_word_count(random: &mut Random, may_be_refused: bool) -> u16 {
+    let longest = RECORD_WORDS as u32;
+    let count = match random.below(32) {
+        0 => longest,
+        1 => random.within(1..=longest),
+        2 if may_be_refused => 0,
+        3 if may_be_refused => longest + 1,
+        _ => random.within(1..=4),
+    };
+    count as u16
 }
 
 /// A file whose records mostly lie in a memory of this length, with a right sum.
@@ -51,10 +60,12 @@ fn any_file(random: &mut Random, board: u16, length: usize) -> Vec<u8> {
     let mut file = File { bytes: Vec::new(), sum: 0 };
     file.mark(b"ID");
     file.number(board);
-    for _ in 0..random.below(4) {
-        let count = any_count(random);
+    let may_be_refused = random.one_in(4);
+    for _ in 0..any_record_count(random) {
+        let count = any_word_count(random, may_be_refused);
         let space = (length + 1).saturating_sub(count.into()) as u64;
-        let address = if random.one_in(12) { random.word() } else { random.below(space.max(1)) as u16 };
+        let is_anywhere = may_be_refused && random.one_in(4);
+        let address = if is_anywhere { random.word() } else { random.below(space.max(1)) as u16 };
         file.record(random, address, count, count.into());
     }
     file.mark(b"OK");
@@ -97,6 +108,9 @@ pub(crate) fn load(random: &mut Random, scene: &mut Scene, tally: &mut Tally) {
         1 => "1 record",
         _ => "records",
     });
+    if ours >> 32 != 0 && MANY_RECORDS.contains(&(ours as u32)) {
+        tally.count_occasion(Occasion::ManyRecordsLoaded);
+    }
 }
 
 /// Regions in the memory, past it, and with the first address above the last.
@@ -133,6 +147,9 @@ pub(crate) fn write(random: &mut Random, scene: &mut Scene, tally: &mut Tally) {
     assert_eq!(ours, theirs, "{call}");
     room.assert_equal(&call, "room");
     scene.memory.assert_equal(&call, "memory");
-    let words = usize::from(last.saturating_sub(first)) + 1;
-    tally.count("write", ours, || if words <= RECORD_WORDS { "1 record" } else { "records" });
+    let records = (usize::from(last.saturating_sub(first)) + 1).div_ceil(RECORD_WORDS) as u32;
+    tally.count("write", ours, || if records == 1 { "1 record" } else { "records" });
+    if ours >> 32 != 0 && MANY_RECORDS.contains(&records) {
+        tally.count_occasion(Occasion::ManyRecordsWritten);
+    }
 }

@@ -1,16 +1,21 @@
-//! Holds the proved core's C interface against the hand-written kit, on random calls: the answers have to be equal, and so has
-//! every word and byte that was lent, with the guards around it.
+//! Holds the proved core against the hand-written kit. [`compare`] makes random calls of the C interface and of the hand-written kit:
+//! the answers have to be equal, and so has every word and byte that was lent, with the guards around it. [`Kit`] is either of the two
+//! as a type, for what is run with both.
 
+pub mod cases;
 mod image_calls;
+mod kit;
 mod listing_calls;
 mod machine_calls;
 mod meter_calls;
 mod random;
 mod reference;
+pub mod rows;
 mod scene;
 mod tally;
 mod twin;
 
+pub use kit::{Handwritten, Kit, Proved};
 pub use tally::Tally;
 
 use random::Random;
@@ -34,7 +39,11 @@ const CALLS: [(Call, u64); 9] = [
     (image_calls::write, 5),
 ];
 
-/// Makes so many random calls of both kits, and panics at the first on which they differ.
+/// Makes so many random calls of both kits.
+///
+/// # Panics
+///
+/// At the first call on which they differ.
 pub fn compare(seed: u64, calls: u64) -> Tally {
     let mut random = Random::new(seed);
     let mut tally = Tally::default();

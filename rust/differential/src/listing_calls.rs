@@ -2,11 +2,10 @@
 
 use crate::random::Random;
 use crate::reference;
-use crate::scene::Scene;
-use crate::tally::Tally;
+use crate::scene::{DISPLACEMENTS, Scene, any_branch, is_far_branch};
+use crate::tally::{Occasion, Tally};
 use crate::twin::Twin;
-use cp1610::calls;
-use kit::{LINE_WORDS, TEXT_ROOM};
+use cp1610::{LINE_WORDS, TEXT_ROOM, calls};
 
 const LIST_WORDS: usize = 3;
 const WORD_COUNTS: [&str; LINE_WORDS] = ["1 word", "2 words", "3 words"];
@@ -37,17 +36,22 @@ pub(crate) fn list(random: &mut Random, scene: &mut Scene, tally: &mut Tally) {
     tally.count("list", ours, || WORD_COUNTS[out.items()[1] as usize - 1]);
     if ours >> 32 != 0 {
         tally.count_listed(word, d != 0);
+        if scene.is_far_branch(address) {
+            tally.count_occasion(Occasion::FarBranchListed);
+        }
     }
 }
 
-/// Words of an instruction. Jumps and branches, which have many forms and few opcodes, are met more often than by chance.
+/// Words of an instruction. Jumps and branches, which have many forms and few opcodes, are met more often than by chance, and so
+/// are displacements at the edges.
 fn any_words(random: &mut Random) -> [u16; LINE_WORDS] {
-    let first = match random.below(4) {
-        0 => 0x004,
-        1 => 0x200 + random.below(0x40) as u16,
-        _ => random.word(),
-    };
-    [first, random.word(), random.word()]
+    let [second, third] = [random.word(), random.word()];
+    match random.below(8) {
+        0 | 1 => [0x004, second, third],
+        2 => [any_branch(random), second, third],
+        3 => [any_branch(random), random.pick(&DISPLACEMENTS), third],
+        _ => [random.word(), second, third],
+    }
 }
 
 /// The line of random words, as the hand-written lister has it.
@@ -104,5 +108,8 @@ pub(crate) fn assemble(random: &mut Random, _: &mut Scene, tally: &mut Tally) {
     tally.count("assemble", ours, || WORD_COUNTS[ours as u32 as usize - 1]);
     if ours >> 32 != 0 {
         tally.count_assembled(words.items()[0]);
+        if is_far_branch(words.items()) {
+            tally.count_occasion(Occasion::FarBranchAssembled);
+        }
     }
 }

@@ -3,13 +3,16 @@
 use crate::random::Random;
 use crate::reference;
 use crate::scene::Scene;
-use crate::tally::Tally;
+use crate::tally::{Occasion, Tally};
 use crate::twin::{Twin, any_length};
-use cp1610::calls;
-use kit::{HIGHEST_BUDGET, STATE_WORDS};
+use cp1610::{HIGHEST_BUDGET, STATE_WORDS, calls};
+use std::ops::RangeInclusive;
 
 const RUN_WORDS: usize = 3;
 const R7: usize = 7;
+
+/// The cycles of a branch that is taken.
+const TAKEN: u32 = 9;
 
 /// The scene's machine, in a buffer that may be longer than a state, or shorter.
 fn lent_state(random: &mut Random, scene: &Scene) -> Twin<u16> {
@@ -30,14 +33,19 @@ fn any_lines(random: &mut Random) -> u32 {
     lines
 }
 
-/// Mostly few cycles, so that many runs end near a halt or an unspecified form; some near the highest budget, on both sides.
+/// Budgets that are neither few cycles nor at the edge of the highest.
+const LONG_RUNS: RangeInclusive<u32> = 5_000..=HIGHEST_BUDGET - 3;
+
+/// Mostly few cycles, so that many runs end near a halt or an unspecified form; some of any length; and some near the highest
+/// budget, on both sides.
 fn any_budget(random: &mut Random) -> u32 {
     match random.below(512) {
-        0 => HIGHEST_BUDGET - random.below(3) as u32,
+        0 => random.within(LONG_RUNS.end() + 1..=HIGHEST_BUDGET),
         1..=8 => HIGHEST_BUDGET + 1,
         9..=16 => (HIGHEST_BUDGET + 1).saturating_add(random.any() as u32),
-        17..=80 => random.below(5_000) as u32,
-        _ => random.below(60) as u32,
+        17..=80 => random.within(0..=LONG_RUNS.start() - 1),
+        81..=96 => random.within(LONG_RUNS),
+        _ => random.within(0..=59),
     }
 }
 
@@ -67,6 +75,9 @@ pub(crate) fn step(random: &mut Random, scene: &mut Scene, tally: &mut Tally) {
     });
     if ours >> 32 == 5 {
         tally.count_executed(word);
+        if ours as u32 == TAKEN && scene.is_far_branch(scene.state[R7]) {
+            tally.count_occasion(Occasion::FarBranchTaken);
+        }
     }
     if state.len() >= STATE_WORDS {
         scene.continue_from(random, state.items());
@@ -85,6 +96,9 @@ pub(crate) fn run(random: &mut Random, scene: &mut Scene, tally: &mut Tally) {
     state.assert_equal(&call, "state");
     scene.memory.assert_equal(&call, "memory");
     tally.count("run", ours, || ["halted", "unspecified", "budget"][out.items()[2] as usize]);
+    if ours >> 32 != 0 && LONG_RUNS.contains(&budget) && out.items()[1] >= budget {
+        tally.count_occasion(Occasion::LongRun);
+    }
     if state.len() >= STATE_WORDS {
         scene.continue_from(random, state.items());
     }

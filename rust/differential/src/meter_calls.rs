@@ -3,41 +3,62 @@
 use crate::random::Random;
 use crate::reference;
 use crate::scene::Scene;
-use crate::tally::Tally;
+use crate::tally::{Occasion, Tally};
 use crate::twin::Twin;
-use cp1610::calls;
-use kit::HIGHEST_LIMIT;
+use cp1610::{HIGHEST_LIMIT, Wait, calls};
+use std::ops::RangeInclusive;
 
 const REGION_WORDS: usize = 5;
 
 /// A region is mostly this long at the most; the whole address range is long to walk.
 const SHORT_REGION: u64 = 200;
 
-fn any_limit(random: &mut Random) -> u16 {
+/// Limits that are neither few cycles nor the highest.
+const LONG_WALKS: RangeInclusive<u32> = 64..=HIGHEST_LIMIT as u32 - 1;
+
+/// Mostly short; some of any length, and some on either side of the wait from the address.
+fn any_limit(random: &mut Random, memory: &[u16], address: u16) -> u16 {
     match random.below(16) {
         0 => HIGHEST_LIMIT,
         1 => HIGHEST_LIMIT + 1 + random.below(3) as u16,
         2 => random.word(),
         3 | 4 => 0,
-        _ => random.below(64) as u16,
+        5 | 6 => random.within(LONG_WALKS) as u16,
+        7 | 8 => (wait_from(memory, address) + random.below(3) as u16).saturating_sub(1),
+        _ => random.within(0..=LONG_WALKS.start() - 1) as u16,
+    }
+}
+
+fn wait_from(memory: &[u16], address: u16) -> u16 {
+    match handwritten::wait(memory, address, HIGHEST_LIMIT) {
+        Ok(Wait::Wait { cycles }) => cycles,
+        _ => 0,
     }
 }
 
 pub(crate) fn wait(random: &mut Random, scene: &mut Scene, tally: &mut Tally) {
-    let (address, limit) = (scene.address(random), any_limit(random));
+    let address = scene.address(random);
+    let limit = any_limit(random, scene.memory.items(), address);
     let ours = calls::wait(scene.memory.ours(), address, limit);
     let theirs = reference::wait(scene.memory.theirs(), address, limit);
     let call = format!("wait at {address:04X} with limit {limit}");
     assert_eq!(ours, theirs, "{call}");
     scene.memory.assert_equal(&call, "memory");
     tally.count("wait", ours, || ["wait", "over", "halts", "unspecified"][(ours >> 32) as usize - 1]);
+    if LONG_WALKS.contains(&limit.into()) {
+        match ours >> 32 {
+            1 if LONG_WALKS.contains(&(ours as u32)) => tally.count_occasion(Occasion::LongWait),
+            2 => tally.count_occasion(Occasion::LongOver),
+            _ => {}
+        }
+    }
 }
 
 fn any_region(random: &mut Random, scene: &Scene) -> (u16, u16, u16) {
     let first = scene.address(random);
-    let limit = any_limit(random);
+    let limit = any_limit(random, scene.memory.items(), first);
     match random.below(64) {
-        0 => (0, u16::MAX, random.below(64) as u16),
+        0 => (0, u16::MAX, limit),
         1 => (first, first.saturating_sub(1), limit),
         2..16 => (first, first.wrapping_add(random.below(3) as u16), limit),
         _ => (first, first.wrapping_add(random.below(SHORT_REGION) as u16), limit),

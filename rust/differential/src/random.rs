@@ -1,5 +1,7 @@
 //! Random numbers from a seed.
 
+use std::ops::RangeInclusive;
+
 /// An xorshift generator: the same numbers on every machine.
 pub struct Random(u64);
 
@@ -27,6 +29,11 @@ impl Random {
     /// A number below `end`, which is not 0.
     pub fn below(&mut self, end: u64) -> u64 {
         self.any() % end
+    }
+
+    /// A number of the range, each as likely as the others.
+    pub fn within(&mut self, range: RangeInclusive<u32>) -> u32 {
+        range.start() + self.below(u64::from(range.end() - range.start()) + 1) as u32
     }
 
     pub fn size_below(&mut self, end: usize) -> usize {

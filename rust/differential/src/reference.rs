@@ -1,8 +1,8 @@
 //! The C interface, made of the hand-written kit: what each call has to answer and to leave, as `docs/C-INTERFACE.md` says.
 
-use cp1610::SHORT_BUFFER;
+use cp1610::calls::SHORT_BUFFER;
+use cp1610::{LINE_WORDS, Lines, Refusal, STATE_WORDS, StateWords, Wait};
 use handwritten::Machine;
-use kit::{Lines, Refusal, STATE_WORDS, StateWords, Wait};
 
 const DONE: u32 = 1;
 
@@ -54,10 +54,11 @@ pub fn run(state: &mut [u16], memory: &mut [u16], lines: u32, budget: u32, out: 
 
 pub fn wait(memory: &[u16], address: u16, limit: u16) -> u64 {
     match handwritten::wait(memory, address, limit) {
-        Ok(Wait::Wait(cycles)) => success(1, cycles.into()),
+        Ok(Wait::Wait { cycles }) => success(1, cycles.into()),
         Ok(Wait::Over) => success(2, 0),
         Ok(Wait::Halts) => success(3, 0),
-        Ok(Wait::Unspecified(at)) => success(4, at.into()),
+        Ok(Wait::Unspecified { address }) => success(4, address.into()),
+        Ok(other) => unreachable!("the C interface has no {other:?}"),
         Err(refusal) => refused(refusal),
     }
 }
@@ -96,7 +97,7 @@ pub fn list(memory: &[u16], address: u16, d: u8, text: &mut [u8], out: &mut [u32
 }
 
 pub fn assemble(line: &[u8], d: u8, words: &mut [u16]) -> u64 {
-    if words.len() < kit::LINE_WORDS {
+    if words.len() < LINE_WORDS {
         return SHORT_BUFFER;
     }
     match handwritten::assemble(line, d != 0) {
@@ -110,7 +111,7 @@ pub fn assemble(line: &[u8], d: u8, words: &mut [u16]) -> u64 {
 }
 
 pub fn load(board: u16, memory: &mut [u16], file: &[u8]) -> u64 {
-    handwritten::load(board, memory, file).map_or_else(refused, |records| success(DONE, 0) + records)
+    handwritten::load(board, memory, file).map_or_else(refused, |records| success(DONE, records as u32))
 }
 
 pub fn write(board: u16, memory: &[u16], first: u16, last: u16, room: &mut [u8]) -> u64 {

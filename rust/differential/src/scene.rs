@@ -2,7 +2,7 @@
 
 use crate::random::Random;
 use crate::twin::Twin;
-use kit::{LONGEST_MEMORY, Mark, STATE_WORDS, StateWords};
+use cp1610::{HIGHEST_LIMIT, LONGEST_MEMORY, Mark, STATE_WORDS, StateWords};
 
 /// A memory for each kit, and the words of the machine on it.
 pub struct Scene {
@@ -25,6 +25,11 @@ impl Scene {
     /// The word at an address, as a step reads it.
     pub fn word_at(&self, at: u16) -> u16 {
         self.memory.items().get(usize::from(at)).copied().unwrap_or(0xFFFF)
+    }
+
+    /// Whether a branch by `FAR` stands at an address.
+    pub fn is_far_branch(&self, at: u16) -> bool {
+        is_far_branch(&[self.word_at(at), self.word_at(at.wrapping_add(1))])
     }
 
     /// A machine goes on from where a call left it; now and then, and where it halted, it starts from anywhere.
@@ -55,23 +60,59 @@ fn any_words(random: &mut Random, length: usize) -> Vec<u16> {
     let mask = if only_opcodes { 0x3FF } else { 0xFFFF };
     let mut words: Vec<u16> = (0..length).map(|_| random.word() & mask).collect();
     for _ in 0..random.size_below(1 + length.min(2_048) / 8) {
-        sow(random, &mut words);
+        let sown = any_rare(random);
+        sow(random, &mut words, &sown);
+    }
+    if random.one_in(8) {
+        let sown = any_unheard(random, LONGEST_STRETCH);
+        sow(random, &mut words, &sown);
     }
     words
 }
 
-/// Puts one of the things that chance alone makes too seldom somewhere: HLT, the unspecified forms, a row of unheard rows.
-fn sow(random: &mut Random, words: &mut [u16]) {
-    let at = random.size_below(words.len());
-    let sown: Vec<u16> = match random.below(4) {
+/// One of the things that chance alone makes too seldom: HLT, the unspecified forms, a branch by a displacement at an edge, a stretch of
+/// unheard rows.
+fn any_rare(random: &mut Random) -> Vec<u16> {
+    match random.below(5) {
         0 => vec![0x000],
         1 => vec![0x004, random.word() | 3],
         2 => vec![0x001, 0x2B0 + 0x40 * random.below(6) as u16 + random.below(8) as u16],
-        _ => (0..random.below(30)).map(|_| random.pick(&[0x002, 0x003, 0x006, 0x040, 0x048, 0x279])).collect(),
-    };
-    for (place, word) in words[at..].iter_mut().zip(sown) {
-        *place = word;
+        3 => vec![any_branch(random), random.pick(&DISPLACEMENTS)],
+        _ => any_unheard(random, 30),
     }
+}
+
+/// So many rows that at 4 cycles each they are above the highest limit.
+const LONGEST_STRETCH: u64 = HIGHEST_LIMIT as u64 / 4 + 100;
+
+fn any_unheard(random: &mut Random, rows: u64) -> Vec<u16> {
+    (0..random.below(rows)).map(|_| random.pick(&[0x002, 0x003, 0x006, 0x040, 0x048, 0x279])).collect()
+}
+
+/// Puts the words somewhere, as far as there is room for them.
+fn sow(random: &mut Random, words: &mut [u16], sown: &[u16]) {
+    if !words.is_empty() {
+        let at = random.size_below(words.len());
+        for (place, word) in words[at..].iter_mut().zip(sown) {
+            *place = *word;
+        }
+    }
+}
+
+/// The displacement that leads as far forward as backward.
+pub const FAR: u16 = 0x8000;
+
+/// Displacements at the edges, and around the one that leads farthest.
+pub const DISPLACEMENTS: [u16; 6] = [0x0000, 0x0001, FAR - 1, FAR, FAR + 1, 0xFFFF];
+
+/// A branch's opcode.
+pub fn any_branch(random: &mut Random) -> u16 {
+    0x200 + random.below(0x40) as u16
+}
+
+/// Whether the words start with a branch by `FAR`.
+pub fn is_far_branch(words: &[u16]) -> bool {
+    matches!(words, [word, FAR, ..] if (0x200..0x240).contains(&(word & 0x3FF)))
 }
 
 fn any_address(random: &mut Random, length: usize) -> u16 {

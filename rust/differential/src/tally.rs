@@ -25,6 +25,39 @@ const ANSWERS: [Answers; 9] = [
     Answers { call: "write", refusals: &[1, 7, 11, 13], kinds: &["1 record", "records"] },
 ];
 
+/// What chance alone makes too seldom, and the draws are made to meet.
+#[derive(Clone, Copy, Debug, PartialEq, Eq, PartialOrd, Ord)]
+pub(crate) enum Occasion {
+    /// A run that spent its budget of 5,000 to 999,997 cycles.
+    LongRun,
+    /// A wait and a limit of 64 to 4,095 cycles.
+    LongWait,
+    /// A walk over a limit of 64 to 4,095.
+    LongOver,
+    /// A file of more than three records, loaded.
+    ManyRecordsLoaded,
+    /// A file of more than three records, written.
+    ManyRecordsWritten,
+    /// A branch by $8000, taken.
+    FarBranchTaken,
+    /// A branch by $8000, listed.
+    FarBranchListed,
+    /// A branch by $8000, assembled.
+    FarBranchAssembled,
+}
+
+/// All of them, as they are printed.
+const OCCASIONS: [(Occasion, &str); 8] = [
+    (Occasion::LongRun, "budgets of 5,000 to 999,997 spent"),
+    (Occasion::LongWait, "limits of 64 to 4,095 with such a wait"),
+    (Occasion::LongOver, "passed"),
+    (Occasion::ManyRecordsLoaded, "files of more than three records loaded"),
+    (Occasion::ManyRecordsWritten, "and written"),
+    (Occasion::FarBranchTaken, "branches by $8000 taken"),
+    (Occasion::FarBranchListed, "listed"),
+    (Occasion::FarBranchAssembled, "assembled"),
+];
+
 /// Lengths of memory that have to be met.
 const MEMORY_LENGTHS: [usize; 6] = [0, 1, 2, 65_535, 65_536, 65_537];
 
@@ -34,10 +67,11 @@ pub enum Answer {
     Kind(&'static str),
 }
 
-/// How often each answer, opcode and length of memory was met.
+/// How often each answer, opcode, length of memory and rare occasion was met.
 pub struct Tally {
     answers: BTreeMap<(&'static str, Answer), u64>,
     memories: BTreeMap<usize, u64>,
+    occasions: BTreeMap<Occasion, u64>,
     executed: [u64; OPCODES],
     listed: [[u64; OPCODES]; 2],
     assembled: [u64; OPCODES],
@@ -48,6 +82,7 @@ impl Default for Tally {
         Tally {
             answers: BTreeMap::new(),
             memories: BTreeMap::new(),
+            occasions: BTreeMap::new(),
             executed: [0; OPCODES],
             listed: [[0; OPCODES]; 2],
             assembled: [0; OPCODES],
@@ -66,6 +101,10 @@ impl Tally {
         *self.memories.entry(length).or_default() += 1;
     }
 
+    pub(crate) fn count_occasion(&mut self, occasion: Occasion) {
+        *self.occasions.entry(occasion).or_default() += 1;
+    }
+
     pub(crate) fn count_executed(&mut self, word: u16) {
         self.executed[usize::from(word) % OPCODES] += 1;
     }
@@ -82,7 +121,11 @@ impl Tally {
         self.answers.get(&(call, answer)).copied().unwrap_or(0)
     }
 
-    /// Panics where some answer of some call, some opcode or some length of memory was never met.
+    /// Looks whether every answer of every call, every opcode, length of memory and rare occasion was met.
+    ///
+    /// # Panics
+    ///
+    /// Where one was not.
     pub fn assert_complete(&self) {
         for Answers { call, refusals, kinds } in ANSWERS {
             for &number in refusals {
@@ -94,6 +137,9 @@ impl Tally {
         }
         for length in MEMORY_LENGTHS {
             assert!(self.memories.contains_key(&length), "there was no memory of {length} words");
+        }
+        for (occasion, _) in OCCASIONS {
+            assert!(self.occasions.contains_key(&occasion), "{occasion:?} was never met");
         }
         for opcode in 0..OPCODES {
             assert_ne!(self.executed[opcode], 0, "opcode {opcode:03X} was never executed");
@@ -126,6 +172,10 @@ impl fmt::Display for Tally {
             write!(f, " of {length} words {},", self.memories.get(&length).copied().unwrap_or(0))?;
         }
         writeln!(f, " all {}", self.memories.values().sum::<u64>())?;
+        for (occasion, name) in OCCASIONS {
+            write!(f, "{name} {}, ", self.occasions.get(&occasion).copied().unwrap_or(0))?;
+        }
+        writeln!(f)?;
         write!(f, "each opcode executed at least {} times, ", least(&self.executed))?;
         write!(f, "listed {} and under D {}, ", least(&self.listed[0]), least(&self.listed[1]))?;
         write!(f, "assembled {}", least(&self.assembled))

@@ -1,10 +1,9 @@
-//! The outside vectors of `crates/vectors`, whose README says what a line is, on both kits.
+//! The outside vectors of `crates/test_vectors`, whose README says what a line is, on both kits.
 
-use cp1610::Proved;
-use handwritten::Handwritten;
-use kit::{Event, Kit, LONGEST_MEMORY, Lines, Mark, STATE_WORDS, StateWords, Step};
+use cp1610::{Event, LONGEST_MEMORY, Lines, Mark, STATE_WORDS, StateWords, Step};
+use differential::{Handwritten, Kit, Proved};
 
-const VECTORS: &str = include_str!("../../../crates/vectors/stdin");
+const VECTORS: &str = include_str!("../../../crates/test_vectors/stdin");
 
 /// The file is not cut short.
 const COUNT: usize = 3_831;

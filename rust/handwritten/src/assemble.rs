@@ -2,12 +2,16 @@
 
 use crate::mnemonic::{CALLS, Form, JUMPS, MNEMONICS, Name, place_of_name};
 use crate::opcode::JUMP;
-use kit::{Assembled, LINE_WORDS, Refusal};
+use cp1610::{Assembled, Refusal};
 
 /// The return register's field in a jump's second word where there is none.
 const NO_RETURN: u16 = 3;
 
 /// The words of a line, with D as it stands before it.
+///
+/// # Errors
+///
+/// Refused by 6.
 pub fn assemble(line: &[u8], d: bool) -> Result<Assembled, Refusal> {
     parse(line, d).ok_or(Refusal::NotAListingLine)
 }
@@ -64,25 +68,25 @@ fn split_name(line: &[u8]) -> Option<(Name, &[u8])> {
 }
 
 fn one(opcode: u16) -> Option<Assembled> {
-    words([opcode, 0, 0], 1)
+    Some(Assembled::new([opcode]))
 }
 
 fn two(opcode: u16, operand: u16) -> Option<Assembled> {
-    words([opcode, operand, 0], 2)
+    Some(Assembled::new([opcode, operand]))
 }
 
-fn words(words: [u16; LINE_WORDS], count: usize) -> Option<Assembled> {
-    Some(Assembled::new(words, count))
+fn three(opcode: u16, second: u16, third: u16) -> Option<Assembled> {
+    Some(Assembled::new([opcode, second, third]))
 }
 
 /// Under D, "the two words of a read row's immediate below 256".
 fn immediate(opcode: u16, value: u16, d: bool) -> Option<Assembled> {
-    if d { words([opcode, value & 0xFF, value >> 8], 3) } else { two(opcode, value) }
+    if d { three(opcode, value & 0xFF, value >> 8) } else { two(opcode, value) }
 }
 
 fn jump(return_field: u16, interrupt_bits: usize, target: u16) -> Option<Assembled> {
     let second = return_field << 8 | target >> 10 << 2 | interrupt_bits as u16;
-    words([JUMP, second, target & 0x3FF], 3)
+    three(JUMP, second, target & 0x3FF)
 }
 
 /// Bit 5 of a branch.

@@ -1,7 +1,7 @@
 //! Image files: the loader and the writer.
 
 use crate::memory::check_length;
-use kit::{RECORD_WORDS, Refusal};
+use cp1610::{RECORD_WORDS, Refusal};
 
 const ID: &[u8; 2] = b"ID";
 const AT: &[u8; 2] = b"AT";
@@ -15,7 +15,11 @@ const TAIL: usize = 2 * WORD;
 const RECORD_HEAD: usize = 3 * WORD;
 
 /// Loads an image file for `board`, and answers the number of its records.
-pub fn load(board: u16, memory: &mut [u16], file: &[u8]) -> Result<u64, Refusal> {
+///
+/// # Errors
+///
+/// Refused by 1; then by the file's first offence, 9, 10 or 11; then by 12.
+pub fn load(board: u16, memory: &mut [u16], file: &[u8]) -> Result<usize, Refusal> {
     check_length(memory)?;
     let records = check(board, memory.len(), file)?;
     let mut rest = Rest(&file[HEAD..]);
@@ -31,7 +35,7 @@ pub fn load(board: u16, memory: &mut [u16], file: &[u8]) -> Result<u64, Refusal>
 }
 
 /// Tests a file from its start to its end, the sum last, and counts its records.
-fn check(board: u16, length: usize, file: &[u8]) -> Result<u64, Refusal> {
+fn check(board: u16, length: usize, file: &[u8]) -> Result<usize, Refusal> {
     let mut rest = Rest(file);
     if rest.mark()? != ID {
         return Err(Refusal::MalformedImage);
@@ -104,6 +108,10 @@ fn words(bytes: &[u8]) -> impl Iterator<Item = u16> {
 }
 
 /// Writes the words `first..=last` as an image file for `board`, and answers its length.
+///
+/// # Errors
+///
+/// Refused by 1, 7, 11 and 13, in this order.
 pub fn write(board: u16, memory: &[u16], first: u16, last: u16, room: &mut [u8]) -> Result<usize, Refusal> {
     check_length(memory)?;
     if first > last {

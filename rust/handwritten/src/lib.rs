@@ -1,5 +1,6 @@
 //! A CP1610 board kit in plain safe Rust, written by hand from document 01 and from nothing else: no rule or table of it comes
-//! from the proved code. The tests in `differential` hold the proved core against it, and `speed` measures both.
+//! from the proved code, and the proved library is not linked. It speaks in the types of the crate `cp1610`, so that one program can
+//! use either kit. The tests in `differential` hold the proved core against it, and `speed` measures both.
 //!
 //! It is written for speed, as an emulator's author would: a machine is changed in place, each opcode has a function of its own
 //! in a table, and what an opcode alone decides is decided while compiling.
@@ -22,9 +23,3 @@ pub use image::{load, write};
 pub use list::list;
 pub use machine::Machine;
 pub use meter::{region, wait};
-
-kit::declare_kit!(
-    /// This kit, as a type.
-    Handwritten,
-    "hand-written"
-);

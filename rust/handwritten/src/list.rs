@@ -3,11 +3,15 @@
 use crate::memory::{check_length, joined, peek};
 use crate::mnemonic::{CALLS, DECLE, Form, JUMPS, MNEMONICS, Name, PLACE_OF};
 use crate::opcode::{JUMP, SDBD, bit, destination, opcode_at, row_of, source};
-use kit::{Listed, Refusal, TEXT_ROOM};
+use cp1610::{Listed, Refusal, TEXT_ROOM};
 
 const DIGITS: &[u8; 16] = b"0123456789ABCDEF";
 
 /// Puts the line of the instruction at `address` into `text`, with D as it stands there.
+///
+/// # Errors
+///
+/// Refused by 1 and 5, in this order.
 pub fn list(memory: &[u16], address: u16, d: bool, text: &mut [u8]) -> Result<Listed, Refusal> {
     check_length(memory)?;
     if text.len() < TEXT_ROOM {

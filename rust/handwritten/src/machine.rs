@@ -1,7 +1,7 @@
 //! The state of a machine.
 
 use crate::opcode::R7;
-use kit::{Mark, STATE_WORDS, StateWords};
+use cp1610::{Mark, STATE_WORDS, StateWords};
 
 const RESET_ADDRESS: u16 = 0x1000;
 

@@ -1,6 +1,6 @@
 //! The lent run of words: "A read past its end gives $FFFF; a write there does nothing."
 
-use kit::{LONGEST_MEMORY, Refusal};
+use cp1610::{LONGEST_MEMORY, Refusal};
 
 const PAST_THE_END: u16 = 0xFFFF;
 

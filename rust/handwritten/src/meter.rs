@@ -2,15 +2,23 @@
 
 use crate::memory::check_length;
 use crate::opcode::{HLT, SDBD, is_unspecified, opcode_at, row_of};
-use kit::{HIGHEST_LIMIT, Longest, Refusal, Region, USUAL_LIMIT, Wait};
+use cp1610::{HIGHEST_LIMIT, Longest, Refusal, Region, USUAL_LIMIT, Wait};
 
 /// How long a request waits that comes before the instruction at `address`.
+///
+/// # Errors
+///
+/// Refused by 1 and 8, in this order.
 pub fn wait(memory: &[u16], address: u16, limit: u16) -> Result<Wait, Refusal> {
     check_length(memory)?;
     Ok(walk(memory, address, limit_of(limit)?))
 }
 
 /// The longest wait from any address of `first..=last`, and the lowest that is over the limit.
+///
+/// # Errors
+///
+/// Refused by 1, 7 and 8, in this order.
 pub fn region(memory: &[u16], first: u16, last: u16, limit: u16) -> Result<Region, Refusal> {
     check_length(memory)?;
     if first > last {
@@ -19,14 +27,13 @@ pub fn region(memory: &[u16], first: u16, last: u16, limit: u16) -> Result<Regio
     let limit = limit_of(limit)?;
     let mut found = Region { longest: None, over: None };
     for start in first..=last {
-        match walk(memory, start, limit) {
-            Wait::Wait(cycles) => {
-                if found.longest.is_none_or(|longest| longest.cycles < cycles) {
-                    found.longest = Some(Longest { cycles, start });
-                }
+        let answer = walk(memory, start, limit);
+        if let Wait::Wait { cycles } = answer {
+            if found.longest.is_none_or(|longest| longest.cycles < cycles) {
+                found.longest = Some(Longest { cycles, start });
             }
-            Wait::Over => found.over = found.over.or(Some(start)),
-            Wait::Halts | Wait::Unspecified(_) => {}
+        } else if answer == Wait::Over {
+            found.over = found.over.or(Some(start));
         }
     }
     Ok(found)
@@ -63,12 +70,12 @@ fn walk(memory: &[u16], start: u16, limit: u16) -> Wait {
 #[inline(always)]
 fn last_row(memory: &[u16], at: u16, w: u16, d: bool, sum: u16, limit: u16) -> Wait {
     if is_unspecified(memory, at, w, d) {
-        Wait::Unspecified(at)
+        Wait::Unspecified { address: at }
     } else if sum > limit {
         Wait::Over
     } else if w == HLT {
         Wait::Halts
     } else {
-        Wait::Wait(sum)
+        Wait::Wait { cycles: sum }
     }
 }

@@ -4,7 +4,7 @@ use crate::execute::{Board, STOP, dispatch};
 use crate::machine::Machine;
 use crate::memory::{check_length, poke};
 use crate::opcode::{R6, R7, is_unspecified, opcode_at};
-use kit::{Cause, Event, HIGHEST_BUDGET, Lines, Refusal, Run, Step};
+use cp1610::{Cause, Event, HIGHEST_BUDGET, Lines, Refusal, Run, Step};
 
 const INTERRUPT_ADDRESS: u16 = 0x1004;
 const GRANT: Step = Step { event: Event::Granted, cycles: 1 };
@@ -21,6 +21,10 @@ struct Spent {
 
 impl Machine {
     /// One step.
+    ///
+    /// # Errors
+    ///
+    /// Refused by 1, 2 and 3, in this order.
     pub fn step(&mut self, memory: &mut [u16], lines: Lines) -> Result<Step, Refusal> {
         check_length(memory)?;
         if self.halted {
@@ -40,6 +44,10 @@ impl Machine {
     }
 
     /// Steps with fixed lines while their cycles are below the budget.
+    ///
+    /// # Errors
+    ///
+    /// Refused by 1, 4 and 2, in this order.
     pub fn run(&mut self, memory: &mut [u16], lines: Lines, budget: u32) -> Result<Run, Refusal> {
         check_length(memory)?;
         if budget > HIGHEST_BUDGET {

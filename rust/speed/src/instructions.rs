@@ -4,9 +4,7 @@
 use crate::measured::COLLECTED;
 use crate::table::{print_head, print_row};
 use crate::workloads::{WORKLOADS, Workload};
-use cp1610::Proved;
-use handwritten::Handwritten;
-use kit::Kit;
+use differential::{Handwritten, Kit, Proved};
 use std::env;
 use std::process::Command;
 

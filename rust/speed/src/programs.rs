@@ -1,6 +1,6 @@
 //! The programs that are run, as the lister's lines.
 
-use kit::{LONGEST_MEMORY, Mark, STATE_WORDS, StateWords};
+use cp1610::{LONGEST_MEMORY, Mark, STATE_WORDS, StateWords};
 
 const START: u16 = 0x1000;
 const SUBROUTINE: u16 = 0x1800;

@@ -3,9 +3,8 @@
 
 use crate::measured::{Measured, digest, time_of};
 use crate::programs::{self, Program, made_up_words};
-use cp1610::Proved;
-use handwritten::Handwritten;
-use kit::{HIGHEST_BUDGET, HIGHEST_LIMIT, Kit, LONGEST_MEMORY, Lines, TEXT_ROOM};
+use cp1610::{HIGHEST_BUDGET, HIGHEST_LIMIT, LONGEST_MEMORY, Lines, TEXT_ROOM};
+use differential::{Handwritten, Kit, Proved};
 use std::hint::black_box;
 
 /// A workload, with either kit.

@@ -4,7 +4,8 @@ use std::error::Error;
 use std::fmt;
 
 /// Why a call was refused. A refused call alters nothing.
-#[derive(Clone, Copy, Debug, PartialEq, Eq)]
+#[derive(Clone, Copy, Debug, PartialEq, Eq, Hash)]
+#[non_exhaustive]
 #[repr(u8)]
 pub enum Refusal {
     /// The memory is above 65,536 words.
@@ -36,8 +37,8 @@ pub enum Refusal {
 }
 
 impl Refusal {
-    /// Every refusal, by its number.
-    pub const ALL: [Refusal; 13] = [
+    /// Every refusal, number 1 first.
+    const TABLE: [Refusal; 13] = [
         Refusal::MemoryTooLong,
         Refusal::Halted,
         Refusal::Unspecified,
@@ -58,10 +59,10 @@ impl Refusal {
         self as u8
     }
 
-    /// The refusal that has this number.
-    pub fn from_number(number: u64) -> Option<Refusal> {
-        let place = usize::try_from(number.checked_sub(1)?).ok()?;
-        Refusal::ALL.get(place).copied()
+    /// The refusal that has this number, if one has.
+    pub fn from_number(number: u8) -> Option<Refusal> {
+        let place = number.checked_sub(1)?;
+        Refusal::TABLE.get(usize::from(place)).copied()
     }
 
     fn reason(self) -> &'static str {
@@ -97,11 +98,11 @@ mod tests {
 
     #[test]
     fn numbers_are_places_in_the_table() {
-        for (place, refusal) in Refusal::ALL.into_iter().enumerate() {
+        for (place, refusal) in Refusal::TABLE.into_iter().enumerate() {
             assert_eq!(usize::from(refusal.number()), place + 1);
-            assert_eq!(Refusal::from_number(refusal.number().into()), Some(refusal));
+            assert_eq!(Refusal::from_number(refusal.number()), Some(refusal));
         }
-        for number in [0, 14, 255, u64::MAX] {
+        for number in [0, 14, 255] {
             assert_eq!(Refusal::from_number(number), None);
         }
     }

@@ -3,6 +3,9 @@
 //! state of words, or that tests the interface.
 #![allow(unsafe_code)]
 
+/// The refusal of a `state`, `out` or `words` that is too short: the C interface's own number, none of document 01's.
+pub const SHORT_BUFFER: u64 = 255;
+
 unsafe extern "C" {
     fn cp1610_reset(state: *mut u16, state_length: usize) -> u64;
     fn cp1610_step(state: *mut u16, state_length: usize, mem: *mut u16, mem_length: usize, lines: u32) -> u64;

@@ -1,0 +1,13 @@
+//! The calls of the proved core.
+
+pub mod calls;
+mod image;
+mod listing;
+mod machine;
+mod meter;
+mod words;
+
+pub use image::{load, write};
+pub use listing::{assemble, list};
+pub use machine::Machine;
+pub use meter::{region, wait};

@@ -1,0 +1,42 @@
+//! Cases of the lister and of the assembler.
+
+use super::{memory, same, same_items, wanted};
+use crate::kit::Kit;
+use crate::rows::{self, Fields};
+use cp1610::{Listed, TEXT_ROOM};
+
+/// What the text room holds before the call.
+const BLANK: u8 = b'#';
+
+pub(super) fn list<K: Kit>(before: &mut Fields, after: &mut Fields) -> Result<(), String> {
+    let (address, d) = (before.word("address", 0)?, before.bit("d", false)?);
+    let (memory, mut room) = (memory(before)?, vec![BLANK; before.number("room", TEXT_ROOM)?]);
+    let mut last_room = room.clone();
+    let wanted = wanted(after, |answer, after| {
+        let text = after.take("text").unwrap_or_default().as_bytes();
+        let (Some(line), "listed") = (last_room.get_mut(..text.len()), answer) else {
+            return Ok(None);
+        };
+        line.copy_from_slice(text);
+        Ok(Some(Listed { length: text.len(), words: after.number("words", 0)?, next_d: after.bit("d", false)? }))
+    })?;
+    same("answer", K::list(&memory, address, d, &mut room), wanted)?;
+    same_items("room", &room, &last_room)
+}
+
+pub(super) fn assemble<K: Kit>(before: &mut Fields, after: &mut Fields) -> Result<(), String> {
+    let (line, d) = (line(before)?, before.bit("d", false)?);
+    let wanted = wanted(after, |answer, after| {
+        let words = after.read_as("words", rows::list)?;
+        Ok(words.filter(|_| answer == "assembled"))
+    })?;
+    same("answer", K::assemble(&line, d).map(|assembled| assembled.words().to_vec()), wanted)
+}
+
+/// The line as text, or as bytes where a row can't show it.
+fn line(before: &mut Fields) -> Result<Vec<u8>, String> {
+    match (before.take("text"), before.read_as("bytes", rows::bytes)?) {
+        (Some(_), Some(_)) => Err("text and bytes are both given".into()),
+        (text, bytes) => Ok(bytes.unwrap_or(text.unwrap_or_default().into())),
+    }
+}

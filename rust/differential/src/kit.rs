@@ -1,0 +1,126 @@
+//! A kit as a type, for tests and measurements that are run with either of the two.
+
+use cp1610::{Assembled, Lines, Listed, Refusal, Region, Run, StateWords, Step, Wait};
+
+/// The calls of a board kit. The refusals are document 01's, as the crate `cp1610` says at each of its functions.
+pub trait Kit {
+    /// A machine of this kit.
+    type Machine;
+
+    /// What the kit is called in tables.
+    const NAME: &'static str;
+
+    /// A machine after reset.
+    fn reset() -> Self::Machine;
+
+    /// The machine that these words stand for.
+    fn from_words(words: &StateWords) -> Self::Machine;
+
+    /// The words that stand for this machine.
+    fn to_words(machine: &Self::Machine) -> StateWords;
+
+    /// One step.
+    fn step(machine: &mut Self::Machine, memory: &mut [u16], lines: Lines) -> Result<Step, Refusal>;
+
+    /// Steps while their cycles are below the budget.
+    fn run(machine: &mut Self::Machine, memory: &mut [u16], lines: Lines, budget: u32) -> Result<Run, Refusal>;
+
+    /// How long a request waits from an address.
+    fn wait(memory: &[u16], address: u16, limit: u16) -> Result<Wait, Refusal>;
+
+    /// The longest wait of a region, and its lowest address that is over the limit.
+    fn region(memory: &[u16], first: u16, last: u16, limit: u16) -> Result<Region, Refusal>;
+
+    /// The line of an instruction.
+    fn list(memory: &[u16], address: u16, d: bool, text: &mut [u8]) -> Result<Listed, Refusal>;
+
+    /// The words of a line.
+    fn assemble(line: &[u8], d: bool) -> Result<Assembled, Refusal>;
+
+    /// Loads an image file, and answers the number of its records.
+    fn load(board: u16, memory: &mut [u16], file: &[u8]) -> Result<usize, Refusal>;
+
+    /// Writes an image file, and answers its length.
+    fn write(board: u16, memory: &[u16], first: u16, last: u16, room: &mut [u8]) -> Result<usize, Refusal>;
+}
+
+/// Makes a type that is the kit of a crate, whose functions have the trait's names.
+macro_rules! kit_of_crate {
+    ($(#[$doc:meta])* $kit:ident, $name:literal, $calls:ident) => {
+        $(#[$doc])*
+        #[derive(Clone, Copy, Debug)]
+        pub struct $kit;
+
+        impl Kit for $kit {
+            type Machine = $calls::Machine;
+
+            const NAME: &'static str = $name;
+
+            fn reset() -> Self::Machine {
+                $calls::Machine::reset()
+            }
+
+            fn from_words(words: &StateWords) -> Self::Machine {
+                $calls::Machine::from_words(words)
+            }
+
+            fn to_words(machine: &Self::Machine) -> StateWords {
+                machine.to_words()
+            }
+
+            #[inline]
+            fn step(machine: &mut Self::Machine, memory: &mut [u16], lines: Lines) -> Result<Step, Refusal> {
+                machine.step(memory, lines)
+            }
+
+            #[inline]
+            fn run(machine: &mut Self::Machine, memory: &mut [u16], lines: Lines, budget: u32) -> Result<Run, Refusal> {
+                machine.run(memory, lines, budget)
+            }
+
+            #[inline]
+            fn wait(memory: &[u16], address: u16, limit: u16) -> Result<Wait, Refusal> {
+                $calls::wait(memory, address, limit)
+            }
+
+            #[inline]
+            fn region(memory: &[u16], first: u16, last: u16, limit: u16) -> Result<Region, Refusal> {
+                $calls::region(memory, first, last, limit)
+            }
+
+            #[inline]
+            fn list(memory: &[u16], address: u16, d: bool, text: &mut [u8]) -> Result<Listed, Refusal> {
+                $calls::list(memory, address, d, text)
+            }
+
+            #[inline]
+            fn assemble(line: &[u8], d: bool) -> Result<Assembled, Refusal> {
+                $calls::assemble(line, d)
+            }
+
+            #[inline]
+            fn load(board: u16, memory: &mut [u16], file: &[u8]) -> Result<usize, Refusal> {
+                $calls::load(board, memory, file)
+            }
+
+            #[inline]
+            fn write(board: u16, memory: &[u16], first: u16, last: u16, room: &mut [u8]) -> Result<usize, Refusal> {
+                $calls::write(board, memory, first, last, room)
+            }
+        }
+    };
+}
+
+kit_of_crate!(
+    /// The proved core, by its wrapper.
+    Proved,
+    "proved",
+    cp1610
+);
+
+kit_of_crate!(
+    /// The hand-written kit.
+    Handwritten,
+    "hand-written",
+    handwritten
+);

@@ -1,0 +1,294 @@
+//! Rows of named fields, in which the cases of the test programs are written.
+//!
+//! ```text
+//! # a remark
+//! step ADD@ R4,R4 is R4 + 1 + word            the kind of the case, and its name
+//! before flags=SZOC 0100=02E4 1414=0005       fields `key=value`, in any order
+//! after flags=- r4=141A r7=0101 answer=executed cycles=8
+//! ```
+//!
+//! What is left out has its default; what is not understood is an error. So each reader takes the fields that it knows from a row, and
+//! [`Fields::end`] finds what nobody took.
+
+use std::collections::BTreeMap;
+use std::str::FromStr;
+
+/// A case: three rows of a file.
+#[derive(Clone, Copy, Debug, PartialEq, Eq)]
+pub struct Case<'a> {
+    /// Where its first row stands; a file's first row is 1.
+    pub row: usize,
+    /// What is called.
+    pub kind: &'a str,
+    /// What the case is about.
+    pub name: &'a str,
+    before: &'a str,
+    after: &'a str,
+}
+
+impl<'a> Case<'a> {
+    /// The fields of the two rows.
+    ///
+    /// # Errors
+    ///
+    /// Where one of them is not of the form.
+    pub fn fields(&self) -> Result<(Fields<'a>, Fields<'a>), String> {
+        Ok((Fields::read(self.before)?, Fields::read(self.after)?))
+    }
+}
+
+/// The cases of a file.
+///
+/// # Errors
+///
+/// Where a row is missing, or stands where none is expected.
+pub fn cases(file: &str) -> Result<Vec<Case<'_>>, String> {
+    let rows: Vec<(usize, &str)> = (1..).zip(file.split('\n')).filter(|(_, row)| !is_remark(row)).collect();
+    rows.chunks(3).map(case).collect()
+}
+
+fn is_remark(row: &str) -> bool {
+    row.is_empty() || row.starts_with('#')
+}
+
+fn case<'a>(rows: &[(usize, &'a str)]) -> Result<Case<'a>, String> {
+    let &[(row, title), (_, before), (_, after)] = rows else {
+        return Err("the last case has too few rows".into());
+    };
+    let (kind, name) = title.split_once(' ').ok_or(format!("row {row} has no name: {title}"))?;
+    let (Some(before), Some(after)) = (body(before, "before"), body(after, "after")) else {
+        return Err(format!("row {row} is not followed by `before` and `after`: {title}"));
+    };
+    Ok(Case { row, kind, name, before, after })
+}
+
+/// What follows a row's first word.
+fn body<'a>(row: &'a str, word: &str) -> Option<&'a str> {
+    let rest = row.strip_prefix(word)?;
+    if rest.is_empty() { Some(rest) } else { rest.strip_prefix(' ') }
+}
+
+/// The key whose value is all that is left of its row.
+const TEXT: &str = "text";
+
+/// The fields of a row that were not taken yet.
+#[derive(Debug)]
+pub struct Fields<'a> {
+    left: BTreeMap<&'a str, &'a str>,
+}
+
+impl<'a> Fields<'a> {
+    /// The fields of what follows a row's first word.
+    ///
+    /// # Errors
+    ///
+    /// Where something is no field, or a key stands twice.
+    pub fn read(row: &'a str) -> Result<Fields<'a>, String> {
+        let mut fields = Fields { left: BTreeMap::new() };
+        let mut rest = row.trim_start_matches(' ');
+        while !rest.is_empty() {
+            let (key, behind) = rest.split_once('=').ok_or(format!("{rest} is no field"))?;
+            let end = if key == TEXT { behind.len() } else { behind.find(' ').unwrap_or(behind.len()) };
+            let (value, next) = behind.split_at(end);
+            if key.is_empty() || key.contains(' ') {
+                return Err(format!("{key} is no key"));
+            }
+            if fields.left.insert(key, value).is_some() {
+                return Err(format!("{key} stands twice"));
+            }
+            rest = next.trim_start_matches(' ');
+        }
+        Ok(fields)
+    }
+
+    /// The value of a key, if there is one.
+    pub fn take(&mut self, key: &str) -> Option<&'a str> {
+        self.left.remove(key)
+    }
+
+    /// The value of a key that may not be left out.
+    ///
+    /// # Errors
+    ///
+    /// Where it is.
+    pub fn expect(&mut self, key: &str) -> Result<&'a str, String> {
+        self.take(key).ok_or(format!("{key} is missing"))
+    }
+
+    /// A value that is read in some way, if there is one.
+    ///
+    /// # Errors
+    ///
+    /// Where it can't be read so.
+    pub fn read_as<T>(&mut self, key: &str, read: fn(&str) -> Option<T>) -> Result<Option<T>, String> {
+        match self.take(key) {
+            Some(value) => read(value).map(Some).ok_or(format!("{key} can't be {value}")),
+            None => Ok(None),
+        }
+    }
+
+    /// A word of four hexadecimal digits.
+    ///
+    /// # Errors
+    ///
+    /// Where it is something else.
+    pub fn word(&mut self, key: &str, default: u16) -> Result<u16, String> {
+        Ok(self.read_as(key, word)?.unwrap_or(default))
+    }
+
+    /// A decimal number.
+    ///
+    /// # Errors
+    ///
+    /// Where it is something else.
+    pub fn number<T: FromStr>(&mut self, key: &str, default: T) -> Result<T, String> {
+        Ok(self.read_as(key, number)?.unwrap_or(default))
+    }
+
+    /// 0 or 1.
+    ///
+    /// # Errors
+    ///
+    /// Where it is something else.
+    pub fn bit(&mut self, key: &str, default: bool) -> Result<bool, String> {
+        Ok(self.read_as(key, bit)?.unwrap_or(default))
+    }
+
+    /// All words that are given at an address, as by `0100=02E4,0005`.
+    ///
+    /// # Errors
+    ///
+    /// Where something else is given there, or two words at one address.
+    pub fn words(&mut self) -> Result<BTreeMap<usize, u16>, String> {
+        let firsts: Vec<(&str, u16)> = self.left.keys().filter_map(|key| Some((*key, word(key)?))).collect();
+        let mut words = BTreeMap::new();
+        for (key, first) in firsts {
+            for (at, word) in (first.into()..).zip(self.read_as(key, list)?.unwrap_or_default()) {
+                if words.insert(at, word).is_some() {
+                    return Err(format!("two words are given at {at:04X}"));
+                }
+            }
+        }
+        Ok(words)
+    }
+
+    /// The end of a row, where each field was taken.
+    ///
+    /// # Errors
+    ///
+    /// Where one was not.
+    pub fn end(self) -> Result<(), String> {
+        match self.left.first_key_value() {
+            Some((key, value)) => Err(format!("{key}={value} is not understood here")),
+            None => Ok(()),
+        }
+    }
+}
+
+/// In upper case.
+fn hex_digit(byte: u8) -> Option<u8> {
+    match byte {
+        b'0'..=b'9' => Some(byte - b'0'),
+        b'A'..=b'F' => Some(byte - b'A' + 10),
+        _ => None,
+    }
+}
+
+/// Four hexadecimal digits.
+pub fn word(value: &str) -> Option<u16> {
+    let &[high, low] = bytes(value)?.as_slice() else { return None };
+    Some(u16::from_be_bytes([high, low]))
+}
+
+/// Words with commas between them.
+pub fn list(value: &str) -> Option<Vec<u16>> {
+    value.split(',').map(word).collect()
+}
+
+/// Bytes of two hexadecimal digits each, or none.
+pub fn bytes(value: &str) -> Option<Vec<u8>> {
+    let byte = |digits: &[u8]| match digits {
+        [high, low] => Some(hex_digit(*high)? << 4 | hex_digit(*low)?),
+        _ => None,
+    };
+    value.as_bytes().chunks(2).map(byte).collect()
+}
+
+/// Decimal digits.
+pub fn number<T: FromStr>(value: &str) -> Option<T> {
+    if value.bytes().all(|byte| byte.is_ascii_digit()) { value.parse().ok() } else { None }
+}
+
+/// 0 or 1.
+pub fn bit(value: &str) -> Option<bool> {
+    match value {
+        "0" => Some(false),
+        "1" => Some(true),
+        _ => None,
+    }
+}
+
+#[cfg(test)]
+mod tests {
+    use super::{Fields, bytes, cases};
+
+    #[test]
+    fn a_case_is_three_rows() {
+        let file =
+            "# remark\n\nlist NOP, alone\nbefore 0000=0034\n\n# remark\nafter answer=listed  words=1 text=NOP \n";
+        let cases = cases(file).expect("the file is of the form");
+        let [case] = cases[..] else { panic!("{} cases", cases.len()) };
+        assert_eq!((case.row, case.kind, case.name), (3, "list", "NOP, alone"));
+        let (mut before, mut after) = case.fields().expect("the rows are of the form");
+        assert_eq!(before.words().map(Vec::from_iter), Ok(vec![(0, 0x34)]));
+        assert_eq!(
+            (after.take("answer"), after.number("words", 0), after.take("text")),
+            (Some("listed"), Ok(1), Some("NOP "))
+        );
+        assert_eq!((after.word("address", 7), after.bit("d", true)), (Ok(7), Ok(true)));
+        assert_eq!((before.end(), after.end()), (Ok(()), Ok(())));
+    }
+
+    #[test]
+    fn a_missing_row_is_an_error() {
+        for file in ["step x\nbefore\n", "step x\nafter\nbefore\n", "step\nbefore\nafter\n", "step x\nbefores\nafter\n"]
+        {
+            assert!(cases(file).is_err(), "{file}");
+        }
+        assert_eq!(cases("step x\nbefore\nafter\n").map(|cases| cases.len()), Ok(1));
+    }
+
+    #[test]
+    fn what_is_no_field_is_an_error() {
+        for row in ["r0", "r0=0001 r0=0001", "=0001", "a r0=0001"] {
+            assert!(Fields::read(row).is_err(), "{row}");
+        }
+    }
+
+    #[test]
+    fn what_nobody_takes_is_an_error() {
+        let mut fields = Fields::read("r0=0001 r9=0001").expect("the row is of the form");
+        assert_eq!(fields.word("r0", 0), Ok(1));
+        assert_eq!(fields.end(), Err("r9=0001 is not understood here".into()));
+    }
+
+    #[test]
+    fn a_value_of_another_form_is_an_error() {
+        for row in ["r0=1", "r0=00001", "r0=000g", "r0=00ab", "r0="] {
+            assert!(Fields::read(row).expect("the row is of the form").word("r0", 0).is_err(), "{row}");
+        }
+        for row in ["size=+1", "size=-1", "size=", "size=1x", "size=99999999999"] {
+            assert!(Fields::read(row).expect("the row is of the form").number("size", 0u32).is_err(), "{row}");
+        }
+        for row in ["d=2", "d=", "d=01"] {
+            assert!(Fields::read(row).expect("the row is of the form").bit("d", false).is_err(), "{row}");
+        }
+        for row in ["0100=", "0100=1", "0100=0001,", "0100=0001,0002 0101=0003"] {
+            assert!(Fields::read(row).expect("the row is of the form").words().is_err(), "{row}");
+        }
+        assert_eq!(
+            (bytes("494"), bytes("4g"), bytes(""), bytes("4944")),
+            (None, None, Some(vec![]), Some(vec![0x49, 0x44]))
+        );
+    }
+}
