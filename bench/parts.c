@@ -1,10 +1,5 @@
-/* Drives the meter, the lister, the assembler, the loader and the writer for counting their machine instructions.
- *
- *     rt staticlib cp1610
- *     cc -O2 -Iinclude bench/parts.c target/staticlib/libcp1610.a -o target/parts
- *     valgrind --tool=callgrind --toggle-collect=cp1610_load target/parts
- *
- * and so for cp1610_write, cp1610_list, cp1610_assemble and cp1610_region. Each line printed names what to divide by. */
+/* Drives the meter, the lister, the assembler, the loader and the writer, whose machine instructions bench/measure counts. Each line printed
+ * begins with what to divide by. */
 #include <cp1610.h>
 #include <stdio.h>
 #include <string.h>
@@ -21,7 +16,7 @@ static void fill(void) {
     }
 }
 
-/* Lists every address with both D and assembles each line. */
+/* Lists every address with both D and assembles each line; -1 where a call refuses. */
 static int lines(void) {
     int count = 0;
     for (int address = 0; address < 4096; address++) {
@@ -43,10 +38,12 @@ int main(void) {
     fill();
     uint64_t written = cp1610_write(2, mem, 65536, 0, 65535, file, sizeof file);
     uint64_t loaded = cp1610_load(2, back, 65536, file, cp1610_value_of(written));
-    printf("65536 words written and loaded, %u records, %s\n", cp1610_value_of(loaded),
-        memcmp(mem, back, sizeof mem) == 0 ? "equal" : "DIFFERENT");
-    printf("%d lines listed and assembled\n", lines());
+    int equal = memcmp(mem, back, sizeof mem) == 0;
+    printf("65536 words written and loaded, %u records, %s\n", cp1610_value_of(loaded), equal ? "equal" : "DIFFERENT");
+    int listed = lines();
+    printf("%d lines listed and assembled\n", listed);
     uint32_t named[CP1610_REGION_WORDS];
-    cp1610_region(mem, 65536, 0, 65535, 0, named, CP1610_REGION_WORDS);
+    uint64_t metered = cp1610_region(mem, 65536, 0, 65535, 0, named, CP1610_REGION_WORDS);
     printf("65536 starts metered, longest wait %u at %04X\n", named[CP1610_LONGEST], named[CP1610_LONGEST_START]);
+    return !equal || listed < 0 || cp1610_is_refused(metered);
 }

@@ -1,13 +1,8 @@
-/* Measures cp1610_run over a loop of mixed instructions, and compares it with a run of the plain interpreter's steps.
+/* Measures cp1610_run over a loop of mixed instructions, and compares it with a run of the plain interpreter's steps. bench/measure builds and
+ * runs it.
  *
- *   rt staticlib cp1610
- *   cc -O2 -Iinclude bench/run.c bench/drive.c bench/plain.c target/staticlib/libcp1610.a -o target/run
- *   target/run 3 1000000 0x100 400 200000
- *
- * Arguments: those of bench/step.c, but that the fifth is how many runs to compare on random memories, states, lines and budgets.
- * The exit status is 0 where both agree on everything. Machine instructions, to be divided by the steps:
- *
- *   valgrind --tool=callgrind --toggle-collect=cp1610_run target/run 3 1000000 0x100 1 0 */
+ * Arguments: those of bench/step.c, but that the fifth is how many runs to compare (default 200,000) on random memories, states, lines and
+ * budgets. The exit status is 0 where both agree on everything. */
 #include "drive.h"
 
 #include <stdio.h>

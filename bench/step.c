@@ -1,12 +1,9 @@
-/* Measures cp1610_step over a loop of mixed instructions, and compares it with the plain interpreter step by step.
+/* Measures cp1610_step over a loop of mixed instructions, and compares it with the plain interpreter step by step. bench/measure builds and
+ * runs it.
  *
- *   rt staticlib cp1610
- *   cc -O2 -Iinclude bench/step.c bench/drive.c bench/plain.c target/staticlib/libcp1610.a -o target/step
- *   target/step 3 1000000 0x100 400 5000000
- *
- * Arguments: the lines; the budget of cycles of a run; the flags and marks to start from, bit n for state word 8 + n; how many
- * runs to take the best time of; how many steps to compare on random memories; and a seed (default 1). They are read here so
- * that no compiler can fold them. The exit status is 0 where both agree on everything. */
+ * Arguments: the lines (default 3); the budget of cycles of a run (1,000,000); the flags and marks to start from, bit n for state word
+ * 8 + n (0x100); how many runs to take the best time of (400); how many steps to compare on random memories (5,000,000); and a seed (1).
+ * They are read here so that no compiler can fold them. The exit status is 0 where both agree on everything. */
 #include "drive.h"
 
 #include <stdio.h>
