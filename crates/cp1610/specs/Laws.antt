@@ -1,9 +1,9 @@
 -- What a caller in C reads from the calls: what document 01's definitions answer. Proved in `proofs/AnswerLaws`, `proofs/ReadLaws` and
 -- `proofs/StepsLaws`; `Calls` has what holds of every refused call.
-use Prim.Native.Nat.{ℕ, zero, suc, _≤_}
+use Prim.Native.Nat.{ℕ, _≤_}
 use mathlib.Core.Path.{_≡_}
 use mathlib.Core.List.{List, [], _∷_, map}
-use lib.ListN.{length, take, drop}
+use lib.ListN.{length, take, drop, replicate}
 use Rattle.refusal.specs.Report.{UnlessRefused}
 use Rattle.memory.specs.Bus.{Bus, readOf}
 use Rattle.cpu.specs.Machine.{Machine}
@@ -53,18 +53,14 @@ ReadsTheText =
     HasText (textAt (readOf mem) address (isSet d)) (readListing (callOf (cp1610-list mem address d text out)))
 
 -- the premise can be met: each function that has one, with the shortest buffers that are long enough
-abbrev pub blank : ℕ → List ℕ
-blank zero = []
-blank (suc n) = 0 ∷ blank n
-
 pub record ShortestAreWellLent : Type 0 where
-  pub reset : WellLent (cp1610-reset (blank stateLength))
-  pub step : (mem : Bus) (lines : ℕ) → WellLent (cp1610-step (blank stateLength) mem lines)
-  pub run : (mem : Bus) (lines budget : ℕ) → WellLent (cp1610-run (blank stateLength) mem lines budget (blank runLength))
+  pub reset : WellLent (cp1610-reset (replicate stateLength 0))
+  pub step : (mem : Bus) (lines : ℕ) → WellLent (cp1610-step (replicate stateLength 0) mem lines)
+  pub run : (mem : Bus) (lines budget : ℕ) → WellLent (cp1610-run (replicate stateLength 0) mem lines budget (replicate runLength 0))
   pub wait : (mem : Bus) (limit : ℕ) → WellLent (cp1610-wait mem 65535 limit)
-  pub region : (mem : Bus) (first last limit : ℕ) → WellLent (cp1610-region mem first last limit (blank regionLength))
-  pub list : (mem : Bus) (address d : ℕ) (text : List ℕ) → WellLent (cp1610-list mem address d text (blank listLength))
-  pub assemble : (line : List ℕ) (d : ℕ) → WellLent (cp1610-assemble line d (blank lineWords))
+  pub region : (mem : Bus) (first last limit : ℕ) → WellLent (cp1610-region mem first last limit (replicate regionLength 0))
+  pub list : (mem : Bus) (address d : ℕ) (text : List ℕ) → WellLent (cp1610-list mem address d text (replicate listLength 0))
+  pub assemble : (line : List ℕ) (d : ℕ) → WellLent (cp1610-assemble line d (replicate lineWords 0))
 
 -- calls of a step one after the other with the same buffers, one for each of the numbers that stand for lines
 unfoldable pub callsFrom : List ℕ → Bus → List ℕ → List Called

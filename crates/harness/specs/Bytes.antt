@@ -5,10 +5,10 @@ use lib.ListN.{set}
 use Rattle.harness.specs.Text.{hexNumber}
 
 -- the byte of each pair; a last digit that stands alone makes one too
-unfoldable pub bytesOf : List ℕ → List ℕ
-bytesOf [] = []
-bytesOf (a ∷ []) = hexNumber 2 (a ∷ []) ∷ []
-bytesOf (a ∷ b ∷ digits) = hexNumber 2 (a ∷ b ∷ digits) ∷ bytesOf digits
+unfoldable pub pairBytes : List ℕ → List ℕ
+pairBytes [] = []
+pairBytes (a ∷ []) = hexNumber 2 (a ∷ []) ∷ []
+pairBytes (a ∷ b ∷ digits) = hexNumber 2 (a ∷ b ∷ digits) ∷ pairBytes digits
 
 -- a room with bytes from a place on; one past its end is passed over
 unfoldable pub withBytes : ℕ → List ℕ → List ℕ → List ℕ

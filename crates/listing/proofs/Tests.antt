@@ -57,14 +57,6 @@ past x (suc n) p = let k = past x n (p .0) in let other = p .1 in omega arith
 pub clash : {A : Type 0} {b : Bool} → b ≡ true → b ≡ false → A
 clash e f = let z : _≡_ {A = ℕ} 0 1 = cc in absurd (omega arith)
 
-pub not-true : (b : Bool) → not b ≡ true → b ≡ false
-not-true true e = sym e
-not-true false e = refl
-
-pub not-false : (b : Bool) → not b ≡ false → b ≡ true
-not-false true e = refl
-not-false false e = sym e
-
 pub and-left : (a b : Bool) → (a && b) ≡ true → a ≡ true
 and-left true b e = refl
 and-left false b e = e

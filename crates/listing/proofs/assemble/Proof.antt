@@ -1,7 +1,7 @@
 -- `assemble` reads the text as a line of the row that it is guessed to be of: by `Accept` no other row accepts it.
 use mathlib.Core.Path.{sym, _∙_}
 use borrow.Author.Needs.{needs}
-use Rattle.listing.proofs.Tests.{not-true, not-false}
+use borrow.Author.Tests.{not-true, not-false}
 use Rattle.listing.proofs.Table.{long-as}
 use Rattle.listing.proofs.Guessing.{guess-low, guess-right}
 use Rattle.listing.proofs.Back.{read-row}

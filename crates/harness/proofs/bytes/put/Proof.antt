@@ -5,7 +5,7 @@ use native.Mathlib.Omega.{arith}
 use lib.ListN.{length, set, length-set}
 use lib.Seq.{length-take-le}
 use Rattle.harness.specs.Text.{hexNumber}
-use Rattle.harness.specs.Bytes.{bytesOf, withBytes}
+use Rattle.harness.specs.Bytes.{pairBytes, withBytes}
 use Rattle.harness.proofs.ByteLaws.{one-more, count-more, none-left, no-room, count-none, count-all, count-room}
 use borrow.Author.Needs.{needs}
 use Rattle.harness.proofs.bytes.put.Statement.{statement}
@@ -15,8 +15,8 @@ abbrev Inv-loop : tie.InvT-loop
 Inv-loop room₀ digits rest₀ i₀ room rest i =
     (i ≤ length room₀)
     × (length room ≡ length room₀)
-    × (i + length (bytesOf rest) ≡ length (bytesOf digits))
-    × (withBytes i (bytesOf rest) room ≡ withBytes 0 (bytesOf digits) room₀)
+    × (i + length (pairBytes rest) ≡ length (pairBytes digits))
+    × (withBytes i (pairBytes rest) room ≡ withBytes 0 (pairBytes digits) room₀)
 
 abbrev μ-loop : tie.MeasureT-loop
 μ-loop room₀ digits rest₀ i₀ room rest i = length rest
