@@ -8,11 +8,6 @@ use Rattle.harness.specs.Text.{hexNumber}
 use Rattle.harness.specs.Fields.{fieldsOf, firstValue}
 use Rattle.harness.specs.Forms.{isWord, firstKey}
 
--- n times one word
-abbrev pub filled : ℕ → ℕ → List ℕ
-filled zero word = []
-filled (suc n) word = word ∷ filled n word
-
 -- how many words a list has: each takes five columns, the last four
 abbrev pub wordsInList : List ℕ → ℕ
 wordsInList list = length list / 5 + 1

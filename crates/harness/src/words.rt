@@ -2,16 +2,16 @@
 ghost use mathlib.Core.Path.{_≡_};
 ghost use mathlib.Core.Bool.{true};
 ghost use Prim.Native.Nat.{_*_};
-ghost use lib.ListN.{length, drop, set};
+ghost use lib.ListN.{length, drop, set, replicate};
 ghost use Rattle.harness.specs.Text.{hexNumber};
-ghost use Rattle.harness.specs.Words.{filled, wordsInList, tellsWords, withListAt, withFirst, withWords, isInside, areInside};
+ghost use Rattle.harness.specs.Words.{wordsInList, tellsWords, withListAt, withFirst, withWords, isInside, areInside};
 use crate::fields;
 use crate::form;
 use crate::text;
 
 // Puts one word at every place.
 pub fn fill(run: &mut [u16], word: u16)
-    ensures { λ r. ⌜ now (run .exit) ≡ filled (length (now (run .entry))) word ⌝ }
+    ensures { λ r. ⌜ now (run .exit) ≡ replicate (length (now (run .entry))) word ⌝ }
 {
     let mut i = 0;
     while i < run.len() {
