@@ -9,3 +9,4 @@ pub mod EmitLaws
 pub mod OutcomeLaws
 pub mod TripLaws
 pub mod DamageLaws
+pub mod Examples

@@ -6,4 +6,5 @@ pub mod Answer
 pub mod Load
 pub mod Write
 pub mod Laws
+pub mod Examples
 pub mod inner
