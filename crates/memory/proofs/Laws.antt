@@ -53,9 +53,9 @@ set-words (x ∷ m) zero w (suc b) d p q = q
 set-words (x ∷ m) (suc a) w zero d p q = q
 set-words (x ∷ m) (suc a) w (suc b) d p q = set-words m a w b d p q
 
-poke-words : (m : List ℕ) (a w : ℕ) → Words m → w < 65536 → Words (pokeOf m a w)
+pub poke-word : (m : List ℕ) (a w b : ℕ) → w < 65536 → peekOf m b < 65536 → peekOf (pokeOf m a w) b < 65536
 unfolding peekOf pokeOf
-poke-words m a w h p = λ b. set-words m a w b 0xFFFF p (h b)
+poke-word m a w b p h = set-words m a w b 0xFFFF p h
 
 pub poke-laws : PokeLaws
 poke-laws =
@@ -64,5 +64,5 @@ poke-laws =
       other = peek-other;
       past-end = poke-past;
       keeps-length = poke-length;
-      keeps-words = poke-words;
+      keeps-words = λ m a w h p b. poke-word m a w b p (h b);
     }

@@ -3,14 +3,17 @@ use Prim.Native.Nat.{ℕ}
 use mathlib.Core.Bool.{cond}
 use mathlib.Core.List.{List}
 use Rattle.refusal.specs.declared.Refusal.{Refusal}
-use Rattle.refusal.specs.declared.Refusal.the-variants.{MemoryTooLong}
+use Rattle.refusal.specs.declared.Refusal.the-variants.{MemoryTooLong, BadMap}
 use Rattle.memory.specs.declared.Admission.{Admission}
 use Rattle.memory.specs.declared.Admission.the-variants.{Admitted, Barred}
+use Rattle.memory.specs.declared.map.Board.{Board}
 use Rattle.memory.specs.Memory.{peekOf, pokeOf, tooLong}
+use Rattle.memory.specs.Map.{partAt, readAs, storeAs, badMap}
 
--- how the words are reached: plainly, at every address the lent word there
+-- how the words are reached: plainly, at every address the lent word there, or by a board's map
 pub data Access : Type 0 where
   plain : Access
+  mapped : Board → Access
 
 pub record Bus : Type 0 where
   pub words : List ℕ
@@ -20,19 +23,29 @@ pub record Bus : Type 0 where
 abbrev pub busOf : List ℕ → Bus
 busOf m = record { words = m; access = plain }
 
+-- the same words on a board
+abbrev pub onBoard : Board → Bus → Bus
+onBoard b s = record { words = s .words; access = mapped b }
+
+-- the bus of document 02: "a board map beside the memory"
+abbrev pub busOn : Board → List ℕ → Bus
+busOn b m = onBoard b (busOf m)
+
 -- the word read at an address
 abbrev pub readBy : Access → List ℕ → ℕ → ℕ
 readBy plain m a = peekOf m a
+readBy (mapped b) m a = readAs (partAt b a) m a
 
 unfoldable pub readOf : Bus → ℕ → ℕ
-readOf b a = readBy (b .access) (b .words) a
+readOf s a = readBy (s .access) (s .words) a
 
 -- the bus after a word was stored at an address
 abbrev pub storeBy : Access → List ℕ → ℕ → ℕ → List ℕ
 storeBy plain m a w = pokeOf m a w
+storeBy (mapped b) m a w = storeAs (partAt b a) m a w
 
 unfoldable pub storeOf : Bus → ℕ → ℕ → Bus
-storeOf b a w = record { words = storeBy (b .access) (b .words) a w; access = b .access }
+storeOf s a w = record { words = storeBy (s .access) (s .words) a w; access = s .access }
 
 -- what a step stores: nothing, or a word at an address
 pub data Store : Type 0 where
@@ -43,9 +56,13 @@ abbrev pub stored : Bus → Store → Bus
 stored b keep = b
 stored b (put a w) = storeOf b a w
 
--- whether a call is let in: refusal 1, which no step can change
+-- whether a call is let in: refusals 1 and 14, which no step can change; 14 is "directly after 1 in every call that takes a map"
+abbrev pub mapAdmission : Access → Admission
+mapAdmission plain = Admitted
+mapAdmission (mapped b) = cond (badMap b) (Barred BadMap) Admitted
+
 unfoldable pub admissionOf : Bus → Admission
-admissionOf b = cond (tooLong (b .words)) (Barred MemoryTooLong) Admitted
+admissionOf s = cond (tooLong (s .words)) (Barred MemoryTooLong) (mapAdmission (s .access))
 
 -- a call's outcome: refused at the door, or what it does once it is in
 abbrev pub unlessBarred : {A : Type 0} → Admission → (Refusal → A) → A → A

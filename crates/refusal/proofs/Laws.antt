@@ -19,6 +19,7 @@ use Rattle.refusal.specs.declared.Refusal.the-variants.{
   PastMemory,
   SumDiffers,
   ImageRoomTooSmall,
+  BadMap,
 }
 use Rattle.refusal.specs.Refusals.{refusalNumber, NumbersApart, NumbersLow}
 
@@ -40,6 +41,7 @@ numbered n =
     ∷ PastMemory
     ∷ SumDiffers
     ∷ ImageRoomTooSmall
+    ∷ BadMap
     ∷ [])
     n
     MemoryTooLong
@@ -59,6 +61,7 @@ found WrongBoard = refl
 found PastMemory = refl
 found SumDiffers = refl
 found ImageRoomTooSmall = refl
+found BadMap = refl
 
 pub numbers-apart : NumbersApart
 numbers-apart a b e = sym (found a) ∙ ap numbered e ∙ found b
@@ -77,3 +80,4 @@ numbers-low WrongBoard = lit< tt
 numbers-low PastMemory = lit< tt
 numbers-low SumDiffers = lit< tt
 numbers-low ImageRoomTooSmall = lit< tt
+numbers-low BadMap = lit< tt

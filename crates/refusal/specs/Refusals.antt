@@ -1,4 +1,4 @@
--- Document 01, "Refusal numbers": the number of each refusal.
+-- Document 01, "Refusal numbers": the number of each refusal. "Each new number joins 01's table."
 use Prim.Native.Nat.{ℕ, _<_}
 use Rattle.refusal.specs.Report.{OneToOne}
 use Rattle.refusal.specs.declared.Refusal.{Refusal}
@@ -16,6 +16,7 @@ use Rattle.refusal.specs.declared.Refusal.the-variants.{
   PastMemory,
   SumDiffers,
   ImageRoomTooSmall,
+  BadMap,
 }
 
 abbrev pub refusalNumber : Refusal → ℕ
@@ -45,6 +46,8 @@ refusalNumber PastMemory = 11
 refusalNumber SumDiffers = 12
 -- image room too small
 refusalNumber ImageRoomTooSmall = 13
+-- document 02: more than 16 ranges or one with first above last
+refusalNumber BadMap = 14
 
 -- no two refusals share a number
 abbrev pub NumbersApart : Type 0

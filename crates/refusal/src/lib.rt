@@ -2,7 +2,7 @@
 ghost use mathlib.Core.Path.{_≡_};
 ghost use Rattle.refusal.specs.Refusals.{refusalNumber};
 
-// In the order of document 01's table "Refusal numbers".
+// In the order of document 01's table "Refusal numbers", which document 02 goes on with.
 pub enum Refusal {
     MemoryTooLong,
     Halted,
@@ -17,6 +17,7 @@ pub enum Refusal {
     PastMemory,
     SumDiffers,
     ImageRoomTooSmall,
+    BadMap,
 }
 
 // Document 01's number of a refusal.
@@ -37,5 +38,6 @@ pub fn number(refusal: Refusal) -> u16
         Refusal::PastMemory => 11,
         Refusal::SumDiffers => 12,
         Refusal::ImageRoomTooSmall => 13,
+        Refusal::BadMap => 14,
     }
 }

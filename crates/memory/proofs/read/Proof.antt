@@ -1,22 +1,10 @@
--- `read`: within memory the default of `getD` is not used, and past its end it is the answer.
+-- `read`: the word that is fetched.
 use borrow.Author.Needs.{needs}
-use lib.ListN.{List·getD-eq-default}
-use mathlib.Core.Path.{sym}
-use Rattle.memory.specs.Memory.{peekOf}
-use Rattle.memory.specs.Bus.{readOf}
-use Rattle.memory.proofs.Laws.{getD-within}
 use Rattle.memory.proofs.read.Statement.{statement}
 use Rattle.memory.proofs.read.Tie as tie
 
 returns : tie.Need-returns
-unfolding peekOf readOf
-returns c =
-    let a = c .before .before .args in
-    getD-within (a .mem .now) (a .address) 0 0xFFFF (c .before .if1 .taken)
-
-returns-2 : tie.Need-returns-2
-unfolding peekOf readOf
-returns-2 c = sym (List·getD-eq-default (c .before .args .mem .now) 0xFFFF (c .if1 .left))
+returns c = c .fetch .ensures .1
 
 pub read-spec : {M : Type 1} → statement M
-read-spec = tie.close (tie.spec (λ c. search needs) (λ c. search needs) returns returns-2)
+read-spec = tie.close (tie.spec (λ c κs. search needs) returns)

@@ -1,0 +1,18 @@
+-- `put`: a store past the end changes nothing.
+use borrow.Author.Needs.{needs}
+use lib.Seq.{set-out}
+use mathlib.Core.Path.{refl, sym}
+use Rattle.memory.specs.Memory.{pokeOf}
+use Rattle.memory.proofs.put.Statement.{statement}
+use Rattle.memory.proofs.put.Tie as tie
+
+returns : tie.Need-returns
+unfolding pokeOf
+returns c = refl
+
+returns-2 : tie.Need-returns-2
+unfolding pokeOf
+returns-2 c = sym (set-out _ _ _ (c .if1 .left))
+
+pub put-spec : {M : Type 1} → statement M
+put-spec = tie.close (tie.spec (λ c. search needs) (λ c. search needs) (λ c. search needs) returns returns-2)
