@@ -1,4 +1,3 @@
-use mathlib.Core.Path.{refl}
 -- What the decoder tells, and which words it reads.
 use Prim.Native.Nat.{ℕ, _%_, _<_}
 use mathlib.Core.Path.{_≡_, refl, ap, sym, subst, _∙_}
@@ -8,18 +7,17 @@ use native.Mathlib.Omega.{arith}
 use lib.Dec.{eqb, leb}
 use borrow.Author.Tests.{ne-eqb, lt-leb, le-leb}
 use Rattle.word.specs.Word.{wrapAdd}
-use Rattle.word.proofs.Choice.{cond-true, cond-false, cond-both}
+use Rattle.word.proofs.Choice.{cond-true, cond-false, cond-either}
 use Rattle.memory.specs.Bus.{Bus, readOf}
 use Rattle.memory.specs.Laws.{AgreeAt}
 use Rattle.decode.specs.declared.Instr.{Instr}
 use Rattle.decode.specs.declared.Decoded.{Decoded}
 use Rattle.decode.specs.declared.Decoded.the-variants.{Unspecified, Known}
 use Rattle.decode.specs.Fields.{opcodeOf, fieldS}
-use Rattle.decode.specs.Decode.{instructionOf, isUnspecified, decodeAt}
+use Rattle.decode.specs.Decode.{instructionOf, isUnspecified, unspecifiedForm, specified, decodeAt, decodeWords}
 use Rattle.decode.specs.Rows.{rowOf}
-use Rattle.decode.specs.inner.Forms.{unspecifiedForm}
 use Rattle.decode.specs.Reads.{decodingReads}
-use Rattle.decode.specs.Laws.{known, Decodes, InRange, DecodesInRange, DecodingIsLocal}
+use Rattle.decode.specs.Laws.{known, Decodes, DecodesInSteps, InRange, DecodesInRange, DecodingIsLocal}
 use Rattle.decode.proofs.OpcodeLaws.{opcodes-invert, OfEach, by-opcode, by-opcode-at}
 
 pub known-is : (t : Bool) (i k : Instr) → cond t Unspecified (Known k) ≡ Known i → k ≡ i
@@ -68,19 +66,31 @@ module _ (read : ℕ → ℕ) (at : ℕ) (double : Bool) where
         read = λ row s d a b c k e. let f : fieldS w ≡ s = omega arith in rw (ne-eqb w 0x004 (λ z. omega arith), le-leb 0x280 w (omega arith), f);
       })
 
-  -- what the code answers, by its test of the form
-  pub form-unspecified : unspecifiedForm read at (instructionOf (opcodeOf (read at))) double ≡ true → Decodes read at double Unspecified
-  form-unspecified e = decodes-unspecified (sym (form-is (opcodeOf (read at)) (omega arith)) ∙ e)
+  -- the instruction of the opcode and then its form, which is the decoding
+  in-steps : specified read at (instructionOf (opcodeOf (read at))) double ≡ decodeAt read at double
+  unfolding specified decodeAt
+  in-steps = ap (λ (t : Bool). cond t Unspecified (Known (instructionOf (opcodeOf (read at))))) (form-is (opcodeOf (read at)) (omega arith))
 
-  pub form-known : unspecifiedForm read at (instructionOf (opcodeOf (read at))) double ≡ false → Decodes read at double (Known (instructionOf (opcodeOf (read at))))
-  form-known e = decodes-known (sym (form-is (opcodeOf (read at)) (omega arith)) ∙ e)
+  pub decodes : Decodes read at double (specified read at (instructionOf (opcodeOf (read at))) double)
+  unfolding specified
+  decodes =
+      cond-either (Decodes read at double) (unspecifiedForm read at (instructionOf (opcodeOf (read at))) double)
+      (λ e. decodes-unspecified (sym (form-is (opcodeOf (read at)) (omega arith)) ∙ e))
+      (λ e. decodes-known (sym (form-is (opcodeOf (read at)) (omega arith)) ∙ e))
 
-  -- what holds of the unspecified form and of every kind of instruction holds of what is decoded
-  pub by-decoding : (P : Decoded → Type 0) → P Unspecified → OfEach (λ (i : Instr). P (Known i)) → P (decodeAt read at double)
-  unfolding decodeAt
-  by-decoding P un each =
-      cond-both P (isUnspecified read at (opcodeOf (read at)) double) un
-      (by-opcode (λ (i : Instr). P (Known i)) each (opcodeOf (read at)) (omega arith))
+-- with D clear the jump's second word alone counts
+clear-form : (t u : Bool) → (t && u) ≡ cond t u false
+clear-form true u = refl
+clear-form false u = refl
+
+of-words : (read : ℕ → ℕ) (at : ℕ) → decodeWords (read at) (read (wrapAdd at 1)) ≡ decodeAt read at false
+unfolding decodeWords decodeAt isUnspecified
+of-words read at =
+    let w : ℕ = opcodeOf (read at) in
+    ap (λ (t : Bool). cond t Unspecified (Known (instructionOf w))) (clear-form (eqb w 0x004) (eqb (read (wrapAdd at 1) % 4) 3))
+
+pub decodes-in-steps : DecodesInSteps
+decodes-in-steps = record { forms = form-is; steps = in-steps; words = of-words }
 
 pub each-in-range : OfEach InRange
 each-in-range =

@@ -1,8 +1,9 @@
 -- What holds of the decoder and of every row of the table.
 use Prim.Native.Nat.{ℕ, _<_, _≤_}
 use mathlib.Core.Path.{_≡_}
-use mathlib.Core.Bool.{Bool, cond}
+use mathlib.Core.Bool.{Bool, false, cond}
 use mathlib.Core.List.{List, _++_}
+use Rattle.word.specs.Word.{wrapAdd}
 use Rattle.memory.specs.Bus.{Bus, readOf}
 use Rattle.memory.specs.Laws.{AgreeAt}
 use Rattle.decode.specs.declared.Instr.{Instr}
@@ -11,7 +12,7 @@ use Rattle.decode.specs.declared.Decoded.{Decoded}
 use Rattle.decode.specs.declared.Decoded.the-variants.{Unspecified, Known}
 use Rattle.decode.specs.declared.rows.Row.{Row}
 use Rattle.decode.specs.Fields.{opcodeOf}
-use Rattle.decode.specs.Decode.{instructionOf, opcodeFor, isUnspecified, decodeAt}
+use Rattle.decode.specs.Decode.{instructionOf, opcodeFor, isUnspecified, unspecifiedForm, specified, decodeAt, decodeWords}
 use Rattle.decode.specs.Rows.{rowOf}
 use Rattle.decode.specs.Reads.{decodingReads, ownWords}
 
@@ -33,6 +34,12 @@ toldAt read at double =
 pub record Decodes (read : ℕ → ℕ) (at : ℕ) (double : Bool) (r : Decoded) : Type 0 where
   pub instruction : r ≡ decodeAt read at double
   pub tells : toldOf double r ≡ toldAt read at double
+
+-- the decoding in two steps, the instruction of the opcode and then its form; and that of two words
+pub record DecodesInSteps : Type 0 where
+  pub forms : (read : ℕ → ℕ) (at : ℕ) (double : Bool) (w : ℕ) → w < 1024 → unspecifiedForm read at (instructionOf w) double ≡ isUnspecified read at w double
+  pub steps : (read : ℕ → ℕ) (at : ℕ) (double : Bool) → specified read at (instructionOf (opcodeOf (read at))) double ≡ decodeAt read at double
+  pub words : (read : ℕ → ℕ) (at : ℕ) → decodeWords (read at) (read (wrapAdd at 1)) ≡ decodeAt read at false
 
 -- an instruction's opcode inverts the decoding, on all 1,024 opcodes
 abbrev pub OpcodesInvert : Type 0

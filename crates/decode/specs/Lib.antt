@@ -4,4 +4,3 @@ pub mod Decode
 pub mod Rows
 pub mod Reads
 pub mod Laws
-pub mod inner

@@ -1,10 +1,12 @@
 // The decoder: from an address and the double-byte mark D to the instruction that stands there. Step, meter and disassembler
 // share it, and with it the one decision which forms are unspecified.
 ghost use mathlib.Core.Path.{_≡_};
-ghost use Rattle.memory.specs.Bus.{busOf, readOf};
-ghost use Rattle.decode.specs.Decode.{controlInstruction, statusInstruction, lowInstruction, instructionOf};
-ghost use Rattle.decode.specs.inner.Forms.{unspecifiedForm};
+ghost use Rattle.memory.specs.Bus.{busOn, readOf};
+ghost use Rattle.memory.specs.Near.{inFront};
+ghost use Rattle.decode.specs.Decode.{controlInstruction, statusInstruction, lowInstruction, instructionOf, unspecifiedForm, specified, decodeWords};
 ghost use Rattle.decode.specs.Laws.{Decodes};
+use memory::map::Board;
+use memory::map::Range;
 
 pub mod fields;
 pub mod rows;
@@ -82,39 +84,45 @@ fn low_instruction(s: u16, d: u16) -> Instr
 }
 
 // The instruction of an opcode. Tests in pairs, and no `match` on w / 64: so the compiler takes the decoder for small enough to be made
-// one with each of its callers. Bits 9 to 6 are taken where they are needed, which saves a step four machine instructions.
-fn instruction(w: u16) -> Instr
+// one with each of its callers. Fields are taken where they are needed, which saves a step some machine instructions.
+pub fn instruction(w: u16) -> Instr
     ensures { λ r. ⌜ r ≡ instructionOf w ⌝ }
 {
-    let s = w / 8 % 8;
-    let d = w % 8;
+    let lower = w / 8;
     if w < 0x200 {
         if 0x080 <= w {
-            return Instr::Register((w / 64 % 16) as u8, s, d);
+            return Instr::Register((w / 64 % 16) as u8, lower % 8, w % 8);
         }
         if w < 0x040 {
-            return low_instruction(s, d);
+            return low_instruction(lower % 8, w % 8);
         }
-        return Instr::Shift(s, d);
+        return Instr::Shift(lower % 8, w % 8);
     }
     if 0x280 <= w {
-        return Instr::Read((w / 64 % 16) as u8, s, d);
+        return Instr::Read((w / 64 % 16) as u8, lower % 8, w % 8);
     }
     if w < 0x240 {
         Instr::Branch(w % 64)
     } else {
-        Instr::Store(s, d)
+        Instr::Store(lower % 8, w % 8)
     }
 }
 
 // The two unspecified forms: a jump whose second word ends in bits 3, and a stack read under D.
-fn is_unspecified(mem: &[u16], at: u16, instr: Instr, double: bool) -> bool
-    ensures { λ r. ⌜ r ≡ unspecifiedForm (readOf (busOf (now (mem .entry)))) at instr double ⌝ }
+fn is_unspecified_at(
+    board: Board,
+    near: Range,
+    mem: &[u16],
+    at: u16,
+    instr: Instr,
+    double: bool,
+) -> bool
+    ensures { λ r. ⌜ r ≡ unspecifiedForm (readOf (busOn (inFront near board) (now (mem .entry)))) at instr double ⌝ }
 {
     match instr {
         Instr::Hlt => false,
         Instr::Control(_) => false,
-        Instr::Jump => memory::read(mem, word::wrapping_add(at, 1)) % 4 == 3,
+        Instr::Jump => memory::read(board, near, mem, word::wrapping_add(at, 1)) % 4 == 3,
         Instr::Single(_, _) => false,
         Instr::Gswd(_) => false,
         Instr::Nop(_) => false,
@@ -127,15 +135,42 @@ fn is_unspecified(mem: &[u16], at: u16, instr: Instr, double: bool) -> bool
     }
 }
 
-// The instruction at an address. Only of a jump the second word is read.
-pub fn decode_at(mem: &[u16], at: u16, double: bool) -> Decoded
-    ensures { λ r. ⌜ Decodes (readOf (busOf (now (mem .entry)))) at double r ⌝ }
+// An instruction at an address, unless its form is unspecified there. Only of a jump the second word is read. (The step and the walk read the
+// opcode themselves and call this: one function for both would be too long to be made one with their loops.)
+pub fn specified_at(
+    board: Board,
+    near: Range,
+    mem: &[u16],
+    at: u16,
+    instr: Instr,
+    double: bool,
+) -> Decoded
+    ensures { λ r. ⌜ r ≡ specified (readOf (busOn (inFront near board) (now (mem .entry)))) at instr double ⌝ }
 {
-    let instr = instruction(memory::read(mem, at) % 1024);
-    let unspecified = is_unspecified(mem, at, instr, double);
+    let unspecified = is_unspecified_at(board, near, mem, at, instr, double);
     if unspecified {
         Decoded::Unspecified
     } else {
         Decoded::Known(instr)
+    }
+}
+
+// The instruction at an address.
+pub fn decode_at(board: Board, near: Range, mem: &[u16], at: u16, double: bool) -> Decoded
+    ensures { λ r. ⌜ Decodes (readOf (busOn (inFront near board) (now (mem .entry)))) at double r ⌝ }
+{
+    let instr = instruction(memory::read(board, near, mem, at) % 1024);
+    specified_at(board, near, mem, at, instr, double)
+}
+
+// The instruction of two words with D clear: then only a jump can be unspecified.
+pub fn decode_words(first: u16, second: u16) -> Decoded
+    ensures { λ r. ⌜ r ≡ decodeWords first second ⌝ }
+{
+    let w = first % 1024;
+    if (w == 0x004) & (second % 4 == 3) {
+        Decoded::Unspecified
+    } else {
+        Decoded::Known(instruction(w))
     }
 }

@@ -1,2 +1,0 @@
--- Definitions in the code's shape.
-pub mod Forms
