@@ -12,9 +12,13 @@ use Rattle.refusal.specs.Report.{Report, refused, answered, UnlessRefused}
 use Rattle.refusal.proofs.ReportLaws.{no-answer}
 use Rattle.word.proofs.Choice.{cond-true, cond-false, cond-both}
 use Rattle.memory.specs.declared.Admission.the-variants.{Admitted, Barred}
-use Rattle.memory.specs.Bus.{Bus, busOf, Store, keep, put, stored, admissionOf}
+use Rattle.memory.specs.declared.map.Board.{Board}
+use Rattle.memory.specs.Memory.{peekOf, pokeOf}
+use Rattle.memory.specs.Bus.{Bus, busOf, busOn, readOf, storeOf, Store, keep, put, stored, admissionOf}
+use Rattle.memory.specs.Laws.{takesStore, OnBoard}
 use Rattle.memory.proofs.Laws.{poke-laws}
-use Rattle.memory.proofs.BusLaws.{bus-laws, stored-other, stored-admission, unless-both, unless-in, unless-out}
+use Rattle.memory.proofs.BusLaws.{bus-laws, stored-admission, unless-both, unless-in, unless-out}
+use Rattle.memory.proofs.MapLaws.{map-laws}
 use Rattle.decode.specs.declared.Instr.{Instr}
 use Rattle.decode.specs.declared.Instr.the-variants.{Hlt, Control, Jump, Single, Gswd, Nop, Sin, Shift, Register, Branch, Store as StoreRow, Read}
 use Rattle.decode.specs.declared.Decoded.{Decoded}
@@ -31,7 +35,7 @@ use Rattle.cpu.specs.Branch.{isTaken}
 use Rattle.cpu.specs.Execute.{instructionCycles}
 use Rattle.cpu.specs.Step.{noted, planOf, Action, refusedStep, granted, interrupted, executedFrom, executed, decoded, decodedAction, planned, admittedAction, actionOf, Outcome, made, stepOf, admittedStep}
 use Rattle.cpu.specs.Steps.{stepsFrom}
-use Rattle.cpu.specs.Laws.{RefusedKeepsAll, KeepsAdmission, KeepsLength, ChangesOneWord, Costs, EveryCost, Executes}
+use Rattle.cpu.specs.Laws.{RefusedKeepsAll, KeepsAdmission, Plain, LeavesWords, KeepsLength, ChangesOneWord, Costs, EveryCost, Executes}
 
 -- what holds of each way that an admitted step can go holds of it
 pub by-admitted : (P : Action → Type 0) (m : Machine) (b : Bus) (l : Lines) →
@@ -100,18 +104,71 @@ pub keeps-admission : KeepsAdmission
 unfolding stepOf
 keeps-admission m b l = stored-admission b (actionOf m b l .store)
 
-stored-length : (before after : List ℕ) (s : Store) → stored (busOf before) s ≡ busOf after → length after ≡ length before
-stored-length before after keep e = ap length (sym (bus-laws .one-to-one before after e))
-stored-length before after (put a w) e =
+-- a store to lent words
+stored-plain : (before : List ℕ) (s : Store) → Plain (stored (busOf before) s)
+stored-plain before keep = record { words = before; lent = refl }
+stored-plain before (put a w) = record { words = pokeOf before a w; lent = bus-laws .stores before a w }
+
+stored-on-board : (b : Board) (before : List ℕ) (s : Store) → OnBoard b (stored (busOn b before) s)
+stored-on-board b before keep = record { words = before; lent = refl }
+stored-on-board b before (put a w) = map-laws .lent-after b before a w
+
+pub leaves-words : LeavesWords
+unfolding stepOf
+leaves-words =
+    record {
+      plain = λ m before l. stored-plain before (actionOf m (busOf before) l .store);
+      on-board = λ b m before l. stored-on-board b before (actionOf m (busOn b before) l .store);
+    }
+
+length-plain : (before after : List ℕ) (s : Store) → stored (busOf before) s ≡ busOf after → length after ≡ length before
+length-plain before after keep e = ap length (sym (bus-laws .one-to-one before after e))
+length-plain before after (put a w) e =
     ap length (sym (bus-laws .one-to-one _ after (sym (bus-laws .stores before a w) ∙ e))) ∙ poke-laws .keeps-length before a w
+
+length-on-board : (b : Board) (before after : List ℕ) (s : Store) → stored (busOn b before) s ≡ busOn b after → length after ≡ length before
+length-on-board b before after keep e = ap length (sym (bus-laws .one-to-one-on b before after e))
+length-on-board b before after (put a w) e = map-laws .keeps-length b before after a w e
 
 pub keeps-length : KeepsLength
 unfolding stepOf
-keeps-length m before after l e = stored-length before after (actionOf m (busOf before) l .store) e
+keeps-length =
+    record {
+      plain = λ m before after l e. length-plain before after (actionOf m (busOf before) l .store) e;
+      on-board = λ b m before after l e. length-on-board b before after (actionOf m (busOn b before) l .store) e;
+    }
+
+-- a store that is not taken at an address, or goes to another, leaves the read there; and the lent word
+abbrev Spares : Bus → Store → ℕ → Type 0
+Spares b s a = (w : ℕ) → s ≡ put a w → takesStore b a ≡ true → ⊥
+
+-- where the address is the one stored to, the store is not taken
+apart : (b : Bus) (at w a : ℕ) → Spares b (put at w) a → takesStore b at ≡ true → at ≡ a → ⊥
+apart b at w a h t e = h w (ap (λ (x : ℕ). put x w) e) (ap (takesStore b) (sym e) ∙ t)
+
+stored-spares : (b : Bus) (s : Store) (a : ℕ) → Spares b s a → readOf (stored b s) a ≡ readOf b a
+stored-spares b keep a h = refl
+stored-spares b (put at w) a h = go (takesStore b at) refl
+  where
+    go : (t : Bool) → takesStore b at ≡ t → readOf (storeOf b at w) a ≡ readOf b a
+    go true t = bus-laws .other b at w a (apart b at w a h t)
+    go false t = ap (λ (s : Bus). readOf s a) (bus-laws .untaken b at w t)
+
+lent-spares : (b : Board) (before after : List ℕ) (s : Store) (a : ℕ) → stored (busOn b before) s ≡ busOn b after → Spares (busOn b before) s a → peekOf after a ≡ peekOf before a
+lent-spares b before after keep a e h = ap (λ (m : List ℕ). peekOf m a) (sym (bus-laws .one-to-one-on b before after e))
+lent-spares b before after (put at w) a e h = go (takesStore (busOn b before) at) refl
+  where
+    go : (t : Bool) → takesStore (busOn b before) at ≡ t → peekOf after a ≡ peekOf before a
+    go true t = map-laws .keeps-other b before after at w a e (apart (busOn b before) at w a h t)
+    go false t = ap (λ (m : List ℕ). peekOf m a) (sym (bus-laws .one-to-one-on b before after (sym (bus-laws .untaken (busOn b before) at w t) ∙ e)))
 
 pub changes-one-word : ChangesOneWord
 unfolding stepOf
-changes-one-word m b l a h = stored-other b (actionOf m b l .store) a h
+changes-one-word =
+    record {
+      reads = λ m b l a h. stored-spares b (actionOf m b l .store) a h;
+      lent = λ b m before after l a e h. lent-spares b before after (actionOf m (busOn b before) l .store) a e h;
+    }
 
 -- an instruction costs its row's cycles, and a branch 9 or 7
 pub by-cycles : (P : ℕ → Type 0) (i : Instr) (row : Row) (external : ℕ) (m : Machine) → P (row .cycles) → ((taken : Bool) → P (branchCycles taken)) → P (instructionCycles i row external m)

@@ -5,6 +5,7 @@ pub mod RowMarks
 pub mod SoundLaws
 pub mod BranchLaws
 pub mod LocalLaws
+pub mod AllRamLaws
 pub mod RegisterLaws
 pub mod RowAnswers
 pub mod PlanLaws

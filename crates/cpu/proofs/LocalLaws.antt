@@ -1,12 +1,16 @@
--- A step depends on the words that it reads, and on no others.
+-- A step depends on the words that it reads, and on no others: so a range at hand changes none.
 use Prim.Native.Nat.{ℕ}
-use mathlib.Core.Path.{_≡_, refl, ap, ap₂, _∙_}
+use mathlib.Core.Path.{_≡_, refl, ap, ap₂, sym, subst, _∙_}
 use mathlib.Core.Bool.{Bool, true, false}
 use mathlib.Core.List.{List, [], _∷_, _++_, map}
 use Rattle.word.specs.Word.{wrapAdd}
 use Rattle.memory.specs.declared.Admission.{Admission}
-use Rattle.memory.specs.Bus.{Bus, readOf, unlessBarred}
+use Rattle.memory.specs.declared.map.Range.{Range}
+use Rattle.memory.specs.declared.map.Board.{Board}
+use Rattle.memory.specs.Bus.{Bus, busOn, readOf, unlessBarred}
+use Rattle.memory.specs.Near.{inFront, Near}
 use Rattle.memory.specs.Laws.{AgreeAt}
+use Rattle.memory.proofs.NearLaws.{near-laws}
 use Rattle.decode.specs.declared.Instr.{Instr}
 use Rattle.decode.specs.declared.Instr.the-variants.{Hlt, Control, Jump, Single, Gswd, Nop, Sin, Shift, Register, Branch, Store as StoreRow, Read}
 use Rattle.decode.specs.declared.Decoded.{Decoded}
@@ -22,8 +26,8 @@ use Rattle.cpu.specs.Machine.{Machine, register}
 use Rattle.cpu.specs.Modes.{fetchOf}
 use Rattle.cpu.specs.Reads.{executionReads}
 use Rattle.cpu.specs.Execute.{begun}
-use Rattle.cpu.specs.Step.{noted, planOf, Action, refusedStep, executionWords, executedFrom, executed, decoded, decodedAction, planned, admittedAction, actionOf, decodedReads, plannedReads, stepReads}
-use Rattle.cpu.specs.Laws.{StepIsLocal, DecodesFirst}
+use Rattle.cpu.specs.Step.{noted, planOf, Action, refusedStep, executionWords, executedFrom, executed, decoded, decodedAction, planned, admittedAction, actionOf, made, admittedStep, nearBy, nearAfter, decodedReads, plannedReads, stepReads}
+use Rattle.cpu.specs.Laws.{StepIsLocal, GoesByReads, StepsNear, DecodesFirst}
 
 module _ (b c : Bus) where
   agree-left : (xs ys : List ℕ) → AgreeAt (xs ++ ys) b c → AgreeAt xs b c
@@ -91,6 +95,39 @@ pub step-is-local : StepIsLocal
 unfolding stepReads actionOf admittedAction
 step-is-local m b c l e h =
     ap₂ (λ (t : Admission) (a : Action). unlessBarred t (refusedStep m) a) e (planned-local b c (planOf (noted m l) l) m (noted m l) l h)
+
+-- buses that read alike agree everywhere
+agree-all : (b c : Bus) → readOf b ≡ readOf c → (xs : List ℕ) → AgreeAt xs b c
+agree-all b c e [] = tt
+agree-all b c e (x ∷ xs) = (ap (λ (read : ℕ → ℕ). read x) e, agree-all b c e xs)
+
+pub goes-by-reads : GoesByReads
+unfolding admittedAction
+goes-by-reads m b c l e =
+    planned-local b c (planOf (noted m l) l) m (noted m l) l (agree-all b c e (plannedReads (planOf (noted m l) l) (noted m l) b))
+
+near-same : (b : Board) (near : Range) (m : Machine) (words : List ℕ) (l : Lines) → Near b near → made (busOn b words) (admittedAction m (busOn (inFront near b) words) l) ≡ admittedStep m (busOn b words) l
+unfolding admittedStep
+near-same b near m words l h =
+    ap (made (busOn b words)) (goes-by-reads m (busOn (inFront near b) words) (busOn b words) l (near-laws .reads b near words h))
+
+near-moves : (b : Board) (near : Range) (m : Machine) → Near b near → (p : Plan) → Near b (nearBy p b near m)
+near-moves b near m h Halting = h
+near-moves b near m h Granting = h
+near-moves b near m h Interrupting = h
+near-moves b near m h Executing = near-laws .moves b near (register 7 m) h
+
+pub steps-near : StepsNear
+unfolding nearAfter
+steps-near = record { same = near-same; moves = λ b near m l h. near-moves b near m h (planOf (noted m l) l) }
+
+-- a step of the code, which answers the range at hand after it
+module _ (b : Board) (near after : Range) (m : Machine) (l : Lines) (h : Near b near) (e : after ≡ nearAfter b near m l) where
+  pub still-near : Near b after
+  still-near = subst (Near b) (sym e) (steps-near .moves b near m l h)
+
+  pub near-step : (words : List ℕ) → made (busOn b words) (admittedAction m (busOn (inFront after b) words) l) ≡ admittedStep m (busOn b words) l
+  near-step words = steps-near .same b after m words l still-near
 
 pub decodes-first : DecodesFirst
 unfolding stepReads noted

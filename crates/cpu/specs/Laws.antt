@@ -1,15 +1,19 @@
 -- What holds of every step, on every machine, bus and lines unless premises are named.
 use Prim.Native.Nat.{ℕ, _%_, _<_, _≤_}
 use mathlib.Core.Path.{_≡_}
-use mathlib.Core.Bool.{Bool, false, not, cond}
+use mathlib.Core.Bool.{Bool, true, false, not, cond}
 use mathlib.Core.List.{List}
 use lib.Dec.{ltb}
 use lib.ListN.{length}
 use Rattle.refusal.specs.Report.{refused, answered}
 use Rattle.word.specs.Word.{wrapAdd, signed}
 use Rattle.memory.specs.declared.Admission.the-variants.{Admitted}
-use Rattle.memory.specs.Bus.{Bus, busOf, readOf, put, admissionOf}
-use Rattle.memory.specs.Laws.{AgreeAt, BusWords}
+use Rattle.memory.specs.declared.map.Range.{Range}
+use Rattle.memory.specs.declared.map.Board.{Board}
+use Rattle.memory.specs.Memory.{peekOf}
+use Rattle.memory.specs.Bus.{Bus, busOf, busOn, readOf, put, admissionOf}
+use Rattle.memory.specs.Near.{inFront, Near}
+use Rattle.memory.specs.Laws.{AgreeAt, BusWords, takesStore, OnBoard}
 use Rattle.decode.specs.declared.Instr.{Instr}
 use Rattle.decode.specs.declared.Instr.the-variants.{Register, Branch, Read}
 use Rattle.decode.specs.declared.Decoded.the-variants.{Known}
@@ -25,7 +29,7 @@ use Rattle.cpu.specs.Answer.{StepDone, done}
 use Rattle.cpu.specs.Branch.{isTaken}
 use Rattle.cpu.specs.Modes.{Fetch, fetchOf}
 use Rattle.cpu.specs.Execute.{begun}
-use Rattle.cpu.specs.Step.{noted, planOf, decoded, executionWords, executed, actionOf, Outcome, stepOf, stepReads}
+use Rattle.cpu.specs.Step.{noted, planOf, decoded, executionWords, executed, admittedAction, actionOf, Outcome, made, stepOf, admittedStep, nearAfter, stepReads}
 
 -- "A refusal hands back its number, no other result, and no lent word or byte altered."
 abbrev pub RefusedKeepsAll : Type 0
@@ -38,19 +42,37 @@ RefusedKeepsAll =
 abbrev pub KeepsAdmission : Type 0
 KeepsAdmission = (m : Machine) (b : Bus) (l : Lines) → admissionOf (stepOf m b l .bus) ≡ admissionOf b
 
--- a step on lent words leaves as many
-abbrev pub KeepsLength : Type 0
-KeepsLength =
-    (m : Machine) (before after : List ℕ) (l : Lines) →
-    stepOf m (busOf before) l .bus ≡ busOf after →
-    length after ≡ length before
+-- a step on lent words leaves lent words, and as many: reached plainly, and on a board
+pub record Plain (b : Bus) : Type 0 where
+  pub words : List ℕ
+  pub lent : b ≡ busOf words
 
--- a step changes at most one word: the one that its action names
-abbrev pub ChangesOneWord : Type 0
-ChangesOneWord =
-    (m : Machine) (b : Bus) (l : Lines) (a : ℕ) →
-    ((w : ℕ) → actionOf m b l .store ≡ put a w → ⊥) →
-    readOf (stepOf m b l .bus) a ≡ readOf b a
+pub record LeavesWords : Type 0 where
+  pub plain : (m : Machine) (before : List ℕ) (l : Lines) → Plain (stepOf m (busOf before) l .bus)
+  pub on-board : (b : Board) (m : Machine) (before : List ℕ) (l : Lines) → OnBoard b (stepOf m (busOn b before) l .bus)
+
+pub record KeepsLength : Type 0 where
+  pub plain :
+      (m : Machine) (before after : List ℕ) (l : Lines) →
+      stepOf m (busOf before) l .bus ≡ busOf after →
+      length after ≡ length before
+  pub on-board :
+      (b : Board) (m : Machine) (before after : List ℕ) (l : Lines) →
+      stepOf m (busOn b before) l .bus ≡ busOn b after →
+      length after ≡ length before
+
+-- a step changes at most one word: the one that its action names, where the bus takes a store there. Every other read stays, and on a board every other
+-- lent word, also one that no address reads.
+pub record ChangesOneWord : Type 0 where
+  pub reads :
+      (m : Machine) (b : Bus) (l : Lines) (a : ℕ) →
+      ((w : ℕ) → actionOf m b l .store ≡ put a w → takesStore b a ≡ true → ⊥) →
+      readOf (stepOf m b l .bus) a ≡ readOf b a
+  pub lent :
+      (b : Board) (m : Machine) (before after : List ℕ) (l : Lines) (a : ℕ) →
+      stepOf m (busOn b before) l .bus ≡ busOn b after →
+      ((w : ℕ) → actionOf m (busOn b before) l .store ≡ put a w → takesStore (busOn b before) a ≡ true → ⊥) →
+      peekOf after a ≡ peekOf before a
 
 -- buses that agree on what a step reads, and let in alike, give the same action: machine, answer and store
 abbrev pub StepIsLocal : Type 0
@@ -59,6 +81,19 @@ StepIsLocal =
     admissionOf b ≡ admissionOf c →
     AgreeAt (stepReads m b l) b c →
     actionOf m b l ≡ actionOf m c l
+
+-- once let in, a step goes by what is read, and by nothing else of the bus
+abbrev pub GoesByReads : Type 0
+GoesByReads =
+    (m : Machine) (b c : Bus) (l : Lines) → readOf b ≡ readOf c → admittedAction m b l ≡ admittedAction m c l
+
+-- so a range at hand changes no step, and the one after a step is at hand too
+pub record StepsNear : Type 0 where
+  pub same :
+      (b : Board) (near : Range) (m : Machine) (words : List ℕ) (l : Lines) →
+      Near b near →
+      made (busOn b words) (admittedAction m (busOn (inFront near b) words) l) ≡ admittedStep m (busOn b words) l
+  pub moves : (b : Board) (near : Range) (m : Machine) (l : Lines) → Near b near → Near b (nearAfter b near m l)
 
 -- an executing step reads first what decoding reads: these are the words that demand 3's walk reads at the instruction
 abbrev pub DecodesFirst : Type 0

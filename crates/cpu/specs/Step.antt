@@ -7,7 +7,10 @@ use Rattle.refusal.specs.declared.Refusal.the-variants.{Halted, Unspecified as 
 use Rattle.refusal.specs.Refusals.{refusalNumber}
 use Rattle.refusal.specs.Report.{Report, refused}
 use Rattle.word.specs.Word.{wrapAdd}
-use Rattle.memory.specs.Bus.{Bus, busOf, readOf, Store, keep, put, stored, admissionOf, unlessBarred}
+use Rattle.memory.specs.declared.map.Range.{Range}
+use Rattle.memory.specs.declared.map.Board.{Board}
+use Rattle.memory.specs.Bus.{Bus, busOn, readOf, Store, keep, put, stored, admissionOf, unlessBarred}
+use Rattle.memory.specs.Near.{nearOf}
 use Rattle.decode.specs.declared.Instr.{Instr}
 use Rattle.decode.specs.declared.Decoded.{Decoded}
 use Rattle.decode.specs.declared.Decoded.the-variants.{Unspecified, Known}
@@ -19,6 +22,7 @@ use Rattle.cpu.specs.declared.Lines.{Lines}
 use Rattle.cpu.specs.declared.Plan.{Plan}
 use Rattle.cpu.specs.declared.Plan.the-variants.{Halting, Granting, Interrupting, Executing}
 use Rattle.cpu.specs.declared.Stepped.{Stepped}
+use Rattle.cpu.specs.declared.NearStep.{NearStep}
 use Rattle.cpu.specs.Machine.{Machine, machineOf, register, setRegister, setSwitches, setRunning, setIntrm, seenBy}
 use Rattle.cpu.specs.Answer.{StepDone, done, stepReport}
 use Rattle.cpu.specs.Modes.{Effect}
@@ -119,9 +123,22 @@ stepOf m b l = made b (actionOf m b l)
 unfoldable pub admittedStep : Machine → Bus → Lines → Outcome
 admittedStep m b l = made b (admittedAction m b l)
 
--- the outcome that the code's answer and the memory at its return stand for: the step's contract says that it is `stepOf`
-abbrev pub outcome : Stepped → List ℕ → Outcome
-outcome x m = record { machine = machineOf (x .state); answer = stepReport (x .answer); bus = busOf m }
+-- the outcome that the code's answer and the memory at its return, on a board, stand for: the step's contract says that it is `stepOf`
+abbrev pub outcome : Board → Stepped → List ℕ → Outcome
+outcome b x m = record { machine = machineOf (x .state); answer = stepReport (x .answer); bus = busOn b m }
+
+-- the same of the code's step with a range at hand, and the range at hand after it: the one in which the opcode stands
+abbrev pub outcomeNear : Board → NearStep → List ℕ → Outcome
+outcomeNear b x m = record { machine = machineOf (x .state); answer = stepReport (x .answer); bus = busOn b m }
+
+abbrev pub nearBy : Plan → Board → Range → Machine → Range
+nearBy Halting b near m = near
+nearBy Granting b near m = near
+nearBy Interrupting b near m = near
+nearBy Executing b near m = nearOf b near (register 7 m)
+
+unfoldable pub nearAfter : Board → Range → Machine → Lines → Range
+nearAfter b near m l = nearBy (planOf (noted m l) l) b near m
 
 -- The addresses that a step reads, in order: what decoding reads, then what the execution reads. A refusal before that, a grant and an interrupt read
 -- nothing; an unspecified form is told by what decoding reads.

@@ -1,14 +1,20 @@
 // The processor: its state, and one step of it.
 ghost use mathlib.Core.Path.{_≡_};
 ghost use mathlib.Core.Bool.{false};
-ghost use Rattle.memory.specs.Bus.{busOf, readOf};
+ghost use lib.ListN.{getD};
+ghost use Rattle.refusal.specs.Report.{isRefused};
+ghost use Rattle.memory.specs.Bus.{busOn, readOf};
+ghost use Rattle.memory.specs.Near.{inFront, nearOf};
 ghost use Rattle.decode.specs.Decode.{decodeAt};
 ghost use Rattle.cpu.specs.Machine.{machineOf, resetMachine};
 ghost use Rattle.cpu.specs.Answer.{stepReport, cyclesOf, meetsUnspecified};
-ghost use Rattle.cpu.specs.Step.{decodedAction, decoded, made, outcome, stepOf, admittedStep};
+ghost use Rattle.cpu.specs.Step.{decodedAction, decoded, admittedAction, made, stepOf, admittedStep, outcome, outcomeNear, nearAfter};
 ghost use Rattle.cpu.specs.inner.Parts.{machineIn, isUnspecifiedForm, steppedOf};
 use decode::Decoded;
 use memory::Admission;
+use memory::map::Board;
+use memory::map::Range;
+use memory::near;
 use refusal::Refusal;
 
 mod branch;
@@ -72,6 +78,13 @@ pub struct Stepped {
     pub answer: StepAnswer,
 }
 
+// The same with the range at hand after it, in which the opcode stood: a run hands it to its next step.
+pub struct NearStep {
+    pub state: State,
+    pub answer: StepAnswer,
+    pub near: Range,
+}
+
 // Where a reset starts.
 const RESET_ADDRESS: u16 = 0x1000;
 
@@ -98,15 +111,16 @@ pub fn reset() -> State
     }
 }
 
-fn finished(registers: [u16; 8], status: Status, answer: StepAnswer) -> Stepped
-    ensures { λ r. ⌜ r ≡ steppedOf registers status answer ⌝ }
+fn finished(registers: [u16; 8], status: Status, answer: StepAnswer, near: Range) -> NearStep
+    ensures { λ r. ⌜ r ≡ steppedOf registers status answer near ⌝ }
 {
-    Stepped {
+    NearStep {
         state: State {
             registers: registers,
             status: status,
         },
         answer: answer,
+        near: near,
     }
 }
 
@@ -116,19 +130,31 @@ fn instruction(
     registers: [u16; 8],
     before: Status,
     status: Status,
+    board: Board,
+    given: Range,
     mem: &mut [u16],
     lines: Lines,
-) -> Stepped
+) -> NearStep
     requires { ⌜ status .halted ≡ false ⌝ }
-    ensures { λ r. ⌜ outcome r (now (mem .exit)) ≡ made (busOf (now (mem .entry))) (decodedAction (decoded (machineIn registers status) (busOf (now (mem .entry)))) (machineIn registers before) (machineIn registers status) (busOf (now (mem .entry))) lines) ⌝ }
+    ensures left { λ r. ⌜ outcomeNear board r (now (mem .exit)) ≡ made (busOn board (now (mem .entry))) (decodedAction (decoded (machineIn registers status) (busOn (inFront (r .near) board) (now (mem .entry)))) (machineIn registers before) (machineIn registers status) (busOn (inFront (r .near) board) (now (mem .entry))) lines) ⌝ }
+    ensures near { λ r. ⌜ r .near ≡ nearOf board given (getD registers 7 0) ⌝ }
 {
     let pc = registers[7];
-    let decoded = decode::decode_at(mem, pc, status.d);
+    let fetched = near::fetch(board, given, mem, pc);
+    let near = fetched.near;
+    let first = fetched.word;
+    let read = decode::instruction(first % 1024);
+    let decoded = decode::specified_at(board, near, mem, pc, read, status.d);
     let Decoded::Known(instr) = decoded else {
-        return finished(registers, before, StepAnswer::Refused(Refusal::Unspecified));
+        return finished(
+            registers,
+            before,
+            StepAnswer::Refused(Refusal::Unspecified),
+            near,
+        );
     };
     let seen = registers::put_next(registers, word::wrapping_add(pc, 1));
-    let change = execute::execute(&seen, status, mem, pc, lines.external, instr);
+    let change = execute::execute(&seen, status, board, near, mem, pc, lines.external, instr);
     let after = change.status;
     finished(
         registers::written(registers, change),
@@ -136,42 +162,65 @@ fn instruction(
         StepAnswer::Executed {
             cycles: change.cycles,
         },
+        near,
     )
 }
 
-// One step on a memory that was let in, in document 01's order. A run asks once and makes all its steps by this.
-pub fn admitted_step(state: State, mem: &mut [u16], lines: Lines) -> Stepped
-    ensures { λ r. ⌜ outcome r (now (mem .exit)) ≡ admittedStep (machineOf state) (busOf (now (mem .entry))) lines ⌝ }
+// One step on a memory that was let in, in document 01's order. A run asks once and makes all its steps by this. It reads with a range at hand, which
+// changes no word where the range is one of the board's.
+pub fn admitted_step(
+    state: State,
+    board: Board,
+    near: Range,
+    mem: &mut [u16],
+    lines: Lines,
+) -> NearStep
+    ensures left { λ r. ⌜ outcomeNear board r (now (mem .exit)) ≡ made (busOn board (now (mem .entry))) (admittedAction (machineOf state) (busOn (inFront (r .near) board) (now (mem .entry))) lines) ⌝ }
+    ensures near { λ r. ⌜ r .near ≡ nearAfter board near (machineOf state) lines ⌝ }
 {
     let registers = state.registers;
     let before = state.status;
     let status = requests::noted(before, lines);
     let plan = requests::plan_of(status, lines);
     match plan {
-        Plan::Halting => finished(registers, before, StepAnswer::Refused(Refusal::Halted)),
+        Plan::Halting => finished(
+            registers,
+            before,
+            StepAnswer::Refused(Refusal::Halted),
+            near,
+        ),
         Plan::Granting => finished(
             registers,
             status,
             StepAnswer::Granted {
                 cycles: GRANT_CYCLES,
             },
+            near,
         ),
-        Plan::Interrupting => requests::interrupt(registers, status, mem),
-        Plan::Executing => instruction(registers, before, status, mem, lines),
+        Plan::Interrupting => requests::interrupt(registers, status, board, near, mem),
+        Plan::Executing => instruction(registers, before, status, board, near, mem, lines),
     }
 }
 
 // One step.
-pub fn step(state: State, mem: &mut [u16], lines: Lines) -> Stepped
-    ensures { λ r. ⌜ outcome r (now (mem .exit)) ≡ stepOf (machineOf state) (busOf (now (mem .entry))) lines ⌝ }
+pub fn step(state: State, board: Board, mem: &mut [u16], lines: Lines) -> Stepped
+    ensures { λ r. ⌜ outcome board r (now (mem .exit)) ≡ stepOf (machineOf state) (busOn board (now (mem .entry))) lines ⌝ }
 {
-    let admission = memory::admit(mem);
+    let admission = memory::admit(board, mem);
     match admission {
         Admission::Barred(refusal) => Stepped {
             state: state,
             answer: StepAnswer::Refused(refusal),
         },
-        Admission::Admitted => admitted_step(state, mem, lines),
+        Admission::Admitted => {
+            let left = admitted_step(state, board, near::no_range(), mem, lines);
+            let after = left.state;
+            let answer = left.answer;
+            Stepped {
+                state: after,
+                answer: answer,
+            }
+        }
     }
 }
 
@@ -188,10 +237,10 @@ pub fn cycles(answer: StepAnswer) -> u64
 }
 
 // Whether an unspecified form stands at an address.
-fn is_unspecified_at(mem: &[u16], at: u16, double: bool) -> bool
-    ensures { λ r. ⌜ r ≡ isUnspecifiedForm (decodeAt (readOf (busOf (now (mem .entry)))) at double) ⌝ }
+fn is_unspecified_at(board: Board, near: Range, mem: &[u16], at: u16, double: bool) -> bool
+    ensures { λ r. ⌜ r ≡ isUnspecifiedForm (decodeAt (readOf (busOn (inFront near board) (now (mem .entry)))) at double) ⌝ }
 {
-    let decoded = decode::decode_at(mem, at, double);
+    let decoded = decode::decode_at(board, near, mem, at, double);
     match decoded {
         Decoded::Unspecified => true,
         Decoded::Known(_) => false,
@@ -200,8 +249,8 @@ fn is_unspecified_at(mem: &[u16], at: u16, double: bool) -> bool
 
 // Whether a step from here would be refused for an unspecified form. Nothing is changed: a run looks so at the step that it does
 // not make.
-pub fn is_unspecified_next(state: State, mem: &[u16], lines: Lines) -> bool
-    ensures { λ r. ⌜ r ≡ meetsUnspecified (admittedStep (machineOf state) (busOf (now (mem .entry))) lines .answer) ⌝ }
+pub fn is_unspecified_next(state: State, board: Board, mem: &[u16], lines: Lines) -> bool
+    ensures { λ r. ⌜ r ≡ meetsUnspecified (admittedStep (machineOf state) (busOn board (now (mem .entry))) lines .answer) ⌝ }
 {
     let registers = state.registers;
     let before = state.status;
@@ -211,6 +260,18 @@ pub fn is_unspecified_next(state: State, mem: &[u16], lines: Lines) -> bool
         Plan::Halting => false,
         Plan::Granting => false,
         Plan::Interrupting => false,
-        Plan::Executing => is_unspecified_at(mem, registers[7], status.d),
+        Plan::Executing => is_unspecified_at(board, near::no_range(), mem, registers[7], status.d),
+    }
+}
+
+// Whether a step was refused.
+pub fn is_refused(answer: StepAnswer) -> bool
+    ensures { λ r. ⌜ r ≡ isRefused (stepReport answer) ⌝ }
+{
+    match answer {
+        StepAnswer::Refused(_) => true,
+        StepAnswer::Granted { .. } => false,
+        StepAnswer::Interrupted { .. } => false,
+        StepAnswer::Executed { .. } => false,
     }
 }

@@ -18,7 +18,7 @@ use Rattle.run.specs.declared.Cause.the-variants.{Halted, Unspecified, B
 use Rattle.run.specs.declared.RunAnswer.the-variants.{Refused, Ended}
 use Rattle.run.specs.Run.{causeNumber, RunDone, RunsApart, RunOutcome, refusedRun, causeOf, finish, runFrom, runOn}
 use Rattle.run.specs.Laws.{repeated, Made, SumFixesSteps, MakesItsSteps, CyclesBelow, CauseSays, CauseIsRight, BudgetIsSpent, NoBudgetNoChange}
-use Rattle.run.proofs.RunLaws.{ends-halted, ends-unspecified, ends-budget, Rests, budget-spent, machine-halted, form-unspecified, rests, by-turns, by-run}
+use Rattle.run.proofs.RunLaws.{answered-charged, ends-halted, ends-unspecified, ends-budget, Rests, budget-spent, machine-halted, form-unspecified, rests, by-turns, by-run}
 
 -- the run from where it stands makes so many steps more
 record Runs (l : Lines) (m : Machine) (b : Bus) (steps cycles : ℕ) (o : RunOutcome) : Type 0 where
@@ -67,19 +67,14 @@ runs m b l budget s =
     (λ m b steps cycles o k r. one-more l m b steps cycles o (k .charged) r)
     m b 0 0 s
 
--- a step that is not refused costs a cycle
-answered-charged : (m : Machine) (b : Bus) (l : Lines) → isRefused (stepOf m b l .answer) ≡ false → 1 ≤ cyclesOf (stepOf m b l .answer)
-answered-charged m b l = go (stepOf m b l .answer) (step-charged m b l)
-  where
-    go : (a : Report StepDone) → UnlessRefused (λ (x : StepDone). (1 ≤ x .cycles) × (x .cycles ≤ 12)) a → isRefused a ≡ false → 1 ≤ cyclesOf a
-    go (refused n) p e = absurd (true≢false e)
-    go (answered x) p e = p .0
+step-answered : (m : Machine) (b : Bus) (l : Lines) → isRefused (stepOf m b l .answer) ≡ false → 1 ≤ cyclesOf (stepOf m b l .answer)
+step-answered m b l e = answered-charged (stepOf m b l .answer) (step-charged m b l) e
 
 pub sum-fixes-steps : SumFixesSteps
 unfolding repeated stepsFrom cyclesOfAll Unrefused
 sum-fixes-steps m b l zero zero p q e = refl
-sum-fixes-steps m b l zero (suc k) p q e = absurd (omega (arith, answered-charged m b l (q .0), e))
-sum-fixes-steps m b l (suc n) zero p q e = absurd (omega (arith, answered-charged m b l (p .0), e))
+sum-fixes-steps m b l zero (suc k) p q e = absurd (omega (arith, step-answered m b l (q .0), e))
+sum-fixes-steps m b l (suc n) zero p q e = absurd (omega (arith, step-answered m b l (p .0), e))
 sum-fixes-steps m b l (suc n) (suc k) p q e =
     ap (λ (j : ℕ). suc j) (sum-fixes-steps (stepOf m b l .machine) (stepOf m b l .bus) l n k (p .1) (q .1) (omega (arith, e)))
 

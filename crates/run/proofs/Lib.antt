@@ -2,3 +2,4 @@
 pub mod RunLaws
 pub mod LoopLaws
 pub mod Laws
+pub mod AllRamLaws

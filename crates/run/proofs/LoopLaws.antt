@@ -7,19 +7,22 @@ use native.Mathlib.Omega.{arith}
 use lib.Dec.{eqb, ltb}
 use lib.ListN.{length}
 use borrow.Author.Tests.{eqb-false, ltb-true, ltb-false, le-ltb, lt-ltb, eq-eqb, ne-eqb}
-use Rattle.refusal.specs.Report.{Report, refused, answered}
+use Rattle.refusal.specs.Report.{Report, refused, answered, isRefused}
 use Rattle.word.proofs.Choice.{cond-true, cond-false, cond-both}
 use Rattle.memory.specs.declared.Admission.the-variants.{Admitted}
-use Rattle.memory.specs.Bus.{Bus, busOf, admissionOf}
+use Rattle.memory.specs.declared.map.Board.{Board}
+use Rattle.memory.specs.Bus.{Bus, busOn, admissionOf}
+use Rattle.memory.specs.Near.{inFront, Near}
 use Rattle.cpu.specs.declared.Lines.{Lines}
-use Rattle.cpu.specs.declared.Stepped.{Stepped}
+use Rattle.cpu.specs.declared.NearStep.{NearStep}
 use Rattle.cpu.specs.Machine.{Machine, machineOf}
 use Rattle.cpu.specs.Answer.{StepDone, stepReport, cyclesOf, meetsUnspecified}
-use Rattle.cpu.specs.Step.{Outcome, outcome, refusedStep, stepOf, admittedStep}
-use Rattle.cpu.proofs.ActionLaws.{step-admitted, step-halted, admitted-most, uncharged-keeps-all}
+use Rattle.cpu.specs.Step.{refusedStep, admittedAction, Outcome, made, stepOf, admittedStep, outcomeNear, nearAfter}
+use Rattle.cpu.proofs.ActionLaws.{step-admitted, step-halted, admitted-charged, admitted-most, uncharged-keeps-all}
+use Rattle.cpu.proofs.LocalLaws.{still-near, near-step}
 use Rattle.run.specs.Run.{RunOutcome, finish, stepsOn, runOn}
 use Rattle.run.specs.inner.Loop.{LoopEnd, unstepped, stop, loopFrom, loopOn, loopOf}
-use Rattle.run.proofs.RunLaws.{Goes, Rests, budget-spent, machine-halted, form-unspecified, rests, by-turns}
+use Rattle.run.proofs.RunLaws.{answered-charged, Goes, Rests, budget-spent, machine-halted, form-unspecified, rests, by-turns}
 
 abbrev next : Lines → Outcome → Outcome
 next l o = admittedStep (o .machine) (o .bus) l
@@ -121,38 +124,60 @@ loop-is-step m b l s =
     cond-both (λ (e : LoopEnd). e .left ≡ admittedStep m b l) (eqb (cyclesOf (admittedStep m b l .answer)) 0) refl refl
     ∙ sym (step-admitted m b l s)
 
--- the code's loop: the rest of it is the whole, no step was free, the last one went past the budget by less than its own cycles, and the memory has
--- this length
-pub record Looping (l : Lines) (budget : ℕ) (start : Outcome) (len : ℕ) (x : Stepped) (m : List ℕ) (steps cycles : ℕ) : Type 0 where
-  pub same : loopOn l budget steps cycles (outcome x m) ≡ loopOn l budget 0 0 start
+-- a refused step costs nothing
+refused-free : (a : Report StepDone) → isRefused a ≡ true → cyclesOf a ≡ 0
+refused-free (refused n) e = refl
+refused-free (answered x) e = absurd (false≢true e)
+
+-- the code's loop: the rest of it is the whole, no step was free, the last one went past the budget by less than its own cycles, the range is at hand,
+-- and the memory has this length
+pub record Looping (l : Lines) (budget : ℕ) (b : Board) (start : Outcome) (len : ℕ) (x : NearStep) (m : List ℕ) (steps cycles : ℕ) : Type 0 where
+  pub same : loopOn l budget steps cycles (outcomeNear b x m) ≡ loopOn l budget 0 0 start
   pub few : steps ≤ cycles
-  pub near : cycles < budget + 12
+  pub below : cycles < budget + 12
+  pub at-hand : Near b (x .near)
   pub size : length m ≡ len
 
-module _ {l : Lines} {budget : ℕ} {start : Outcome} {len : ℕ} {x : Stepped} {m : List ℕ} {steps cycles : ℕ} (k : Looping l budget start len x m steps cycles) where
-  pub ends-spent : budget ≤ cycles → stop steps cycles (outcome x m) ≡ loopOn l budget 0 0 start
-  ends-spent h = sym (loop-spent l budget steps cycles (outcome x m) h) ∙ k .same
+module _ {l : Lines} {budget : ℕ} {b : Board} {start : Outcome} {len : ℕ} {x : NearStep} {m : List ℕ} {steps cycles : ℕ} (k : Looping l budget b start len x m steps cycles) where
+  pub ends-spent : budget ≤ cycles → stop steps cycles (outcomeNear b x m) ≡ loopOn l budget 0 0 start
+  ends-spent h = sym (loop-spent l budget steps cycles (outcomeNear b x m) h) ∙ k .same
 
-  -- a step was made, at this cost
-  module _ (y : Stepped) {n : List ℕ} {spent : ℕ} (e : outcome y n ≡ next l (outcome x m)) (p : spent ≡ cyclesOf (stepReport (y .answer))) (below : cycles < budget) where
-    costs : cost l (outcome x m) ≡ spent
-    costs = ap (λ (o : Outcome). cyclesOf (o .answer)) (sym e) ∙ sym p
+  -- a step was made, with the range at hand that it answers
+  module _ (y : NearStep) {n : List ℕ} (e : outcomeNear b y n ≡ made (busOn b m) (admittedAction (machineOf (x .state)) (busOn (inFront (y .near) b) m) l)) (near : y .near ≡ nearAfter b (x .near) (machineOf (x .state)) l) (room : cycles < budget) where
+    left : outcomeNear b y n ≡ next l (outcomeNear b x m)
+    left = e ∙ near-step b (x .near) (y .near) (machineOf (x .state)) l (k .at-hand) near m
 
-    pub costs-few : spent ≤ 12
-    costs-few = omega (arith, costs, admitted-most (machineOf (x .state)) (busOf m) l)
+    pub ends-refused : isRefused (stepReport (y .answer)) ≡ true → stop steps cycles (outcomeNear b y n) ≡ loopOn l budget 0 0 start
+    ends-refused r =
+        ap (stop steps cycles) left
+        ∙ sym (loop-refused l budget steps cycles (outcomeNear b x m) room (ap (λ (o : Outcome). cyclesOf (o .answer)) (sym left) ∙ refused-free (stepReport (y .answer)) r))
+        ∙ k .same
 
-    pub ends-refused : spent ≡ 0 → stop steps cycles (outcome y n) ≡ loopOn l budget 0 0 start
-    ends-refused z =
-        ap (stop steps cycles) e ∙ sym (loop-refused l budget steps cycles (outcome x m) below (costs ∙ z)) ∙ k .same
+    -- it was not refused, and cost this
+    module _ {spent : ℕ} (p : spent ≡ cyclesOf (stepReport (y .answer))) (r : isRefused (stepReport (y .answer)) ≡ false) where
+      costs : cost l (outcomeNear b x m) ≡ spent
+      costs = ap (λ (o : Outcome). cyclesOf (o .answer)) (sym left) ∙ sym p
 
-    pub goes-round : length n ≡ length m → (spent ≡ 0 → ⊥) → Looping l budget start len y n (steps + 1) (cycles + spent)
-    goes-round h z =
-        record {
-          same =
-              ap₂ (λ (c : ℕ) (o : Outcome). loopOn l budget (steps + 1) (cycles + c) o) (sym costs) e
-              ∙ sym (loop-on l budget steps cycles (outcome x m) below (λ y. z (sym costs ∙ y)))
-              ∙ k .same;
-          few = omega (arith, k .few);
-          near = omega (arith, costs-few);
-          size = h ∙ k .size;
-        }
+      pub costs-few : spent ≤ 12
+      costs-few = omega (arith, costs, admitted-most (machineOf (x .state)) (busOn b m) l)
+
+      pub costs-some : 1 ≤ spent
+      costs-some =
+          omega (
+            arith,
+            costs,
+            answered-charged (next l (outcomeNear b x m) .answer) (admitted-charged (machineOf (x .state)) (busOn b m) l) (ap (λ (o : Outcome). isRefused (o .answer)) (sym left) ∙ r),
+          )
+
+      pub goes-round : length n ≡ length m → Looping l budget b start len y n (steps + 1) (cycles + spent)
+      goes-round h =
+          record {
+            same =
+                ap₂ (λ (c : ℕ) (o : Outcome). loopOn l budget (steps + 1) (cycles + c) o) (sym costs) left
+                ∙ sym (loop-on l budget steps cycles (outcomeNear b x m) room (λ z. omega (arith, z, costs, costs-some)))
+                ∙ k .same;
+            few = omega (arith, k .few, costs-some);
+            below = omega (arith, costs-few);
+            at-hand = still-near b (x .near) (y .near) (machineOf (x .state)) l (k .at-hand) near;
+            size = h ∙ k .size;
+          }

@@ -7,6 +7,7 @@ use lib.Dec.{ltb}
 use borrow.Author.Tests.{ltb-true, ltb-false, le-ltb, lt-ltb}
 use Rattle.refusal.specs.declared.Refusal.{Refusal}
 use Rattle.refusal.specs.declared.Refusal.the-variants.{BudgetTooHigh, Halted as HaltedMachine}
+use Rattle.refusal.specs.Report.{Report, refused, answered, isRefused, UnlessRefused}
 use Rattle.word.proofs.Choice.{cond-true, cond-false, cond-both}
 use Rattle.memory.specs.declared.Admission.{Admission}
 use Rattle.memory.specs.declared.Admission.the-variants.{Admitted, Barred}
@@ -14,7 +15,7 @@ use Rattle.memory.specs.Bus.{Bus, admissionOf, unlessBarred}
 use Rattle.memory.proofs.BusLaws.{unless-in, unless-out}
 use Rattle.cpu.specs.declared.Lines.{Lines}
 use Rattle.cpu.specs.Machine.{Machine}
-use Rattle.cpu.specs.Answer.{cyclesOf, meetsUnspecified}
+use Rattle.cpu.specs.Answer.{StepDone, cyclesOf, meetsUnspecified}
 use Rattle.cpu.specs.Step.{Outcome, stepOf, admittedStep}
 use Rattle.cpu.proofs.ActionLaws.{step-admitted, step-charges, keeps-admission}
 use Rattle.run.specs.declared.Cause.the-variants.{Halted, Unspecified, Budget}
@@ -41,6 +42,11 @@ all-hold true true c e = absurd (false≢true e)
 all-hold true false true e = absurd (false≢true e)
 all-hold true false false e = (refl, refl, refl)
 all-hold false b c e = absurd (false≢true e)
+
+-- a step that is not refused costs a cycle
+pub answered-charged : (a : Report StepDone) → UnlessRefused (λ (x : StepDone). (1 ≤ x .cycles) × (x .cycles ≤ 12)) a → isRefused a ≡ false → 1 ≤ cyclesOf a
+answered-charged (refused n) p e = absurd (false≢true (sym e))
+answered-charged (answered x) p e = p .0
 
 -- a run that goes on, and its next step
 pub record Goes (m : Machine) (b : Bus) (l : Lines) (budget cycles : ℕ) : Type 0 where

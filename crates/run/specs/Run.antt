@@ -7,7 +7,8 @@ use Rattle.refusal.specs.declared.Refusal.{Refusal}
 use Rattle.refusal.specs.declared.Refusal.the-variants.{BudgetTooHigh, Halted as HaltedMachine}
 use Rattle.refusal.specs.Refusals.{refusalNumber}
 use Rattle.refusal.specs.Report.{Report, refused, answered, OneToOne}
-use Rattle.memory.specs.Bus.{Bus, busOf, admissionOf, unlessBarred}
+use Rattle.memory.specs.declared.map.Board.{Board}
+use Rattle.memory.specs.Bus.{Bus, busOn, admissionOf, unlessBarred}
 use Rattle.cpu.specs.declared.Lines.{Lines}
 use Rattle.cpu.specs.Machine.{Machine, machineOf}
 use Rattle.cpu.specs.Answer.{cyclesOf, meetsUnspecified}
@@ -44,9 +45,9 @@ pub record RunOutcome : Type 0 where
   pub answer : Report RunDone
   pub bus : Bus
 
--- the outcome that the code's answer and the memory at its return stand for: the run's contract says that it is `runOf`
-abbrev pub runOutcome : Ran → List ℕ → RunOutcome
-runOutcome x m = record { machine = machineOf (x .state); answer = runReport (x .answer); bus = busOf m }
+-- the outcome that the code's answer and the memory at its return, on a board, stand for: the run's contract says that it is `runOf`
+abbrev pub runOutcome : Board → Ran → List ℕ → RunOutcome
+runOutcome b x m = record { machine = machineOf (x .state); answer = runReport (x .answer); bus = busOn b m }
 
 -- a refused run changes nothing
 unfoldable pub refusedRun : Machine → Bus → Refusal → RunOutcome
@@ -84,7 +85,7 @@ runFrom (suc turns) m b l budget steps cycles =
 unfoldable pub runOn : Machine → Bus → Lines → ℕ → ℕ → ℕ → RunOutcome
 runOn m b l budget steps cycles = runFrom (budget - cycles) m b l budget steps cycles
 
--- "Budget 0 to 1,000,000 cycles, lines fixed." "Run tests 1, 4, 2."; no step changes who is let in, so 1 is asked once
+-- "Budget 0 to 1,000,000 cycles, lines fixed." "Run tests 1, 4, 2.", and 14 after 1; no step changes who is let in, so 1 and 14 are asked once
 unfoldable pub runOf : Machine → Bus → Lines → ℕ → RunOutcome
 runOf m b l budget =
     unlessBarred (admissionOf b) (refusedRun m b)

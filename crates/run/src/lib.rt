@@ -2,18 +2,21 @@
 // unspecified form.
 ghost use mathlib.Core.Path.{_≡_};
 ghost use Prim.Native.Nat.{_+_, _<_, _≤_};
-ghost use Rattle.memory.specs.Bus.{busOf};
+ghost use Rattle.memory.specs.Bus.{busOn};
 ghost use Rattle.cpu.specs.Machine.{machineOf};
 ghost use Rattle.cpu.specs.Step.{outcome, stepOf};
 ghost use Rattle.run.specs.declared.RunAnswer.the-variants.{Refused};
 ghost use Rattle.run.specs.Run.{causeOf, runOutcome, runOf};
 ghost use Rattle.run.specs.inner.Loop.{stoppedOf, loopEnd, loopOf};
 use cpu::Lines;
+use cpu::NearStep;
 use cpu::State;
 use cpu::Status;
 use cpu::StepAnswer;
 use cpu::Stepped;
 use memory::Admission;
+use memory::map::Board;
+use memory::near;
 use refusal::Refusal;
 
 // What ended a run.
@@ -47,7 +50,7 @@ struct Stop {
     answer: StepAnswer,
 }
 
-fn stopped(last: Stepped, steps: u32, cycles: u64) -> Stop
+fn stopped(last: NearStep, steps: u32, cycles: u64) -> Stop
     ensures { λ r. ⌜ r ≡ stoppedOf last steps cycles ⌝ }
 {
     let state = last.state;
@@ -86,46 +89,48 @@ fn copied(state: State) -> State
     }
 }
 
-// Steps on an admitted memory while the sum of their cycles is below the budget and none is refused. In the library this is the only
-// caller of the processor's step, so that the compiler makes one function of both.
-fn make_steps(state: State, mem: &mut [u16], lines: Lines, budget: u32) -> Stop
+// Steps on an admitted memory while the sum of their cycles is below the budget and none is refused. Each step gets the range at hand that the last one
+// left. In the library this is the only caller of the processor's step, so that the compiler makes one function of both.
+fn make_steps(state: State, board: Board, mem: &mut [u16], lines: Lines, budget: u32) -> Stop
     requires { ⌜ budget ≤ 1000000 ⌝ }
-    ensures ends { λ r. ⌜ loopEnd r (now (mem .exit)) ≡ loopOf (machineOf state) (busOf (now (mem .entry))) lines budget ⌝ }
-    ensures near { λ r. ⌜ r .cycles < budget + 12 ⌝ }
+    ensures ends { λ r. ⌜ loopEnd board r (now (mem .exit)) ≡ loopOf (machineOf state) (busOn board (now (mem .entry))) lines budget ⌝ }
+    ensures below { λ r. ⌜ r .cycles < budget + 12 ⌝ }
 {
-    let mut last = Stepped {
+    let mut last = NearStep {
         state: copied(state),
         answer: StepAnswer::Granted { cycles: 0 },
+        near: near::no_range(),
     };
     let mut steps: u32 = 0;
     let mut cycles: u64 = 0;
     let limit = budget as u64;
     while cycles < limit {
         let from = last.state;
-        last = cpu::admitted_step(from, mem, lines);
+        let at_hand = last.near;
+        last = cpu::admitted_step(from, board, at_hand, mem, lines);
         let answer = last.answer;
-        let spent = cpu::cycles(answer);
-        if spent == 0 {
+        let refused = cpu::is_refused(answer);
+        if refused {
             return stopped(last, steps, cycles);
         }
-        cycles = cycles + spent;
+        cycles = cycles + cpu::cycles(answer);
         steps = steps + 1;
     }
     stopped(last, steps, cycles)
 }
 
 // One step, by the run's loop: every step costs a cycle, so a budget of 1 makes one.
-pub fn one_step(state: State, mem: &mut [u16], lines: Lines) -> Stepped
-    ensures { λ r. ⌜ outcome r (now (mem .exit)) ≡ stepOf (machineOf state) (busOf (now (mem .entry))) lines ⌝ }
+pub fn one_step(state: State, board: Board, mem: &mut [u16], lines: Lines) -> Stepped
+    ensures { λ r. ⌜ outcome board r (now (mem .exit)) ≡ stepOf (machineOf state) (busOn board (now (mem .entry))) lines ⌝ }
 {
-    let admission = memory::admit(mem);
+    let admission = memory::admit(board, mem);
     if let Admission::Barred(refusal) = admission {
         return Stepped {
             state: state,
             answer: StepAnswer::Refused(refusal),
         };
     }
-    let stopped = make_steps(state, mem, lines, 1);
+    let stopped = make_steps(state, board, mem, lines, 1);
     let after = stopped.state;
     let answer = stopped.answer;
     Stepped {
@@ -135,15 +140,15 @@ pub fn one_step(state: State, mem: &mut [u16], lines: Lines) -> Stepped
 }
 
 // Why no more steps are made: halted, then unspecified, then budget.
-fn ended_by(state: State, mem: &[u16], lines: Lines) -> Cause
-    ensures { λ r. ⌜ r ≡ causeOf (machineOf state) (busOf (now (mem .entry))) lines ⌝ }
+fn ended_by(state: State, board: Board, mem: &[u16], lines: Lines) -> Cause
+    ensures { λ r. ⌜ r ≡ causeOf (machineOf state) (busOn board (now (mem .entry))) lines ⌝ }
 {
     let status = state.status;
     let halted = status.halted;
     if halted {
         return Cause::Halted;
     }
-    let unspecified = cpu::is_unspecified_next(state, mem, lines);
+    let unspecified = cpu::is_unspecified_next(state, board, mem, lines);
     if unspecified {
         Cause::Unspecified
     } else {
@@ -161,10 +166,10 @@ fn refused(state: State, refusal: Refusal) -> Ran
 }
 
 // Runs for a budget of 0 to 1,000,000 cycles.
-pub fn run(state: State, mem: &mut [u16], lines: Lines, budget: u32) -> Ran
-    ensures { λ r. ⌜ runOutcome r (now (mem .exit)) ≡ runOf (machineOf state) (busOf (now (mem .entry))) lines budget ⌝ }
+pub fn run(state: State, board: Board, mem: &mut [u16], lines: Lines, budget: u32) -> Ran
+    ensures { λ r. ⌜ runOutcome board r (now (mem .exit)) ≡ runOf (machineOf state) (busOn board (now (mem .entry))) lines budget ⌝ }
 {
-    let admission = memory::admit(mem);
+    let admission = memory::admit(board, mem);
     if let Admission::Barred(refusal) = admission {
         return refused(state, refusal);
     }
@@ -176,7 +181,7 @@ pub fn run(state: State, mem: &mut [u16], lines: Lines, budget: u32) -> Ran
     if halted {
         return refused(state, Refusal::Halted);
     }
-    let stopped = make_steps(state, mem, lines, budget);
+    let stopped = make_steps(state, board, mem, lines, budget);
     let after = stopped.state;
     let cycles = stopped.cycles as u32;
     Ran {
@@ -184,7 +189,7 @@ pub fn run(state: State, mem: &mut [u16], lines: Lines, budget: u32) -> Ran
         answer: RunAnswer::Ended {
             steps: stopped.steps,
             cycles: cycles,
-            cause: ended_by(after, mem, lines),
+            cause: ended_by(after, board, mem, lines),
         },
     }
 }

@@ -2,13 +2,14 @@
 use Prim.Native.Nat.{ℕ}
 use mathlib.Core.Bool.{Bool, true, false, not, _&&_, _||_}
 use mathlib.Core.List.{List}
+use Rattle.memory.specs.declared.map.Range.{Range}
 use Rattle.decode.specs.declared.Decoded.{Decoded}
 use Rattle.decode.specs.declared.Decoded.the-variants.{Unspecified, Known}
 use Rattle.cpu.specs.declared.Status.{Status}
 use Rattle.cpu.specs.declared.State.{State}
 use Rattle.cpu.specs.declared.Lines.{Lines}
 use Rattle.cpu.specs.declared.StepAnswer.{StepAnswer}
-use Rattle.cpu.specs.declared.Stepped.{Stepped}
+use Rattle.cpu.specs.declared.NearStep.{NearStep}
 use Rattle.cpu.specs.Machine.{Flags, Machine, machineOf}
 
 abbrev pub stateOf : List ℕ → Status → State
@@ -57,5 +58,5 @@ abbrev pub isUnspecifiedForm : Decoded → Bool
 isUnspecifiedForm Unspecified = true
 isUnspecifiedForm (Known i) = false
 
-abbrev pub steppedOf : List ℕ → Status → StepAnswer → Stepped
-steppedOf r k a = record { state = stateOf r k; answer = a }
+abbrev pub steppedOf : List ℕ → Status → StepAnswer → Range → NearStep
+steppedOf r k a near = record { state = stateOf r k; answer = a; near = near }

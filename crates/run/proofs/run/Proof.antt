@@ -2,7 +2,7 @@
 use mathlib.Core.Path.{sym, _∙_}
 use native.Mathlib.Omega.{arith}
 use borrow.Author.Needs.{needs}
-use Rattle.memory.specs.Bus.{busOf}
+use Rattle.memory.specs.Bus.{busOn}
 use Rattle.cpu.specs.Machine.{machineOf}
 use Rattle.run.specs.Run.{refusedRun, finish}
 use Rattle.run.proofs.RunLaws.{run-barred, run-high, run-halted, run-starts}
@@ -15,21 +15,21 @@ unfolding refusedRun
 returns c =
     let a = c .before .before .before .before .before .before .before .args in
     rw (c .refused .ensures .0, c .refused .ensures .1)
-    (sym (run-barred (machineOf (a .state)) (busOf (a .mem .now)) (a .lines) (a .budget) (sym (c .before .before .before .before .admit .ensures) ∙ c .before .before .admission .given .1)))
+    (sym (run-barred (machineOf (a .state)) (busOn (a .board) (a .mem .now)) (a .lines) (a .budget) (sym (c .before .before .before .before .admit .ensures) ∙ c .before .before .admission .given .1)))
 
 returns-2 : tie.Need-returns-2
 unfolding refusedRun
 returns-2 c =
     let a = c .before .before .before .before .before .before .before .args in
     rw (c .refused2 .ensures .0, c .refused2 .ensures .1)
-    (sym (run-high (machineOf (a .state)) (busOf (a .mem .now)) (a .lines) (a .budget) (sym (c .before .before .before .before .admit .ensures) ∙ c .before .before .enum-told .given .1) (c .before .if1 .taken)))
+    (sym (run-high (machineOf (a .state)) (busOn (a .board) (a .mem .now)) (a .lines) (a .budget) (sym (c .before .before .before .before .admit .ensures) ∙ c .before .before .enum-told .given .1) (c .before .if1 .taken)))
 
 returns-3 : tie.Need-returns-3
 unfolding refusedRun
 returns-3 c =
     let a = c .before .before .before .before .before .before .before .before .before .args in
     rw (c .refused3 .ensures .0, c .refused3 .ensures .1)
-    (sym (run-halted (machineOf (a .state)) (busOf (a .mem .now)) (a .lines) (a .budget) (sym (c .before .before .before .before .before .before .admit .ensures) ∙ c .before .before .before .before .enum-told .given .1) (c .before .before .before .if1 .left) (c .before .if2 .taken)))
+    (sym (run-halted (machineOf (a .state)) (busOn (a .board) (a .mem .now)) (a .lines) (a .budget) (sym (c .before .before .before .before .before .before .admit .ensures) ∙ c .before .before .before .before .enum-told .given .1) (c .before .before .before .if1 .left) (c .before .if2 .taken)))
 
 cast-cycles : tie.Need-cast-cycles
 cast-cycles c =
@@ -44,8 +44,8 @@ returns-4 c =
     let a = d .before .before .before .args in
     let admitted = sym (d .admit .ensures) ∙ b .before .enum-told .given .1 in
     rw (
-      run-starts (machineOf (a .state)) (busOf (a .mem .now)) (a .lines) (a .budget) admitted (b .if1 .left) (m .before .before .if2 .left),
-      loop-is-run (a .lines) (a .budget) (machineOf (a .state)) (busOf (a .mem .now)) admitted,
+      run-starts (machineOf (a .state)) (busOn (a .board) (a .mem .now)) (a .lines) (a .budget) admitted (b .if1 .left) (m .before .before .if2 .left),
+      loop-is-run (a .lines) (a .budget) (machineOf (a .state)) (busOn (a .board) (a .mem .now)) admitted,
       ← m .make-steps .ensures .0,
       c .ended-by .ensures,
     )

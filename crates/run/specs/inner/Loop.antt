@@ -3,9 +3,10 @@ use Prim.Native.Nat.{ℕ, zero, suc, _+_, _-_}
 use mathlib.Core.Bool.{cond}
 use mathlib.Core.List.{List}
 use lib.Dec.{eqb, ltb}
-use Rattle.memory.specs.Bus.{Bus, busOf}
+use Rattle.memory.specs.declared.map.Board.{Board}
+use Rattle.memory.specs.Bus.{Bus, busOn}
 use Rattle.cpu.specs.declared.Lines.{Lines}
-use Rattle.cpu.specs.declared.Stepped.{Stepped}
+use Rattle.cpu.specs.declared.NearStep.{NearStep}
 use Rattle.cpu.specs.Machine.{Machine, machineOf}
 use Rattle.cpu.specs.Answer.{done, stepReport, cyclesOf}
 use Rattle.cpu.specs.Step.{Outcome, admittedStep}
@@ -20,12 +21,12 @@ pub record LoopEnd : Type 0 where
 abbrev pub stop : ℕ → ℕ → Outcome → LoopEnd
 stop steps cycles o = record { steps = steps; cycles = cycles; left = o }
 
--- the end that the code's place and the memory at its return stand for
-abbrev pub loopEnd : Stop → List ℕ → LoopEnd
-loopEnd x m = stop (x .steps) (x .cycles) (record { machine = machineOf (x .state); answer = stepReport (x .answer); bus = busOf m })
+-- the end that the code's place and the memory at its return, on a board, stand for
+abbrev pub loopEnd : Board → Stop → List ℕ → LoopEnd
+loopEnd b x m = stop (x .steps) (x .cycles) (record { machine = machineOf (x .state); answer = stepReport (x .answer); bus = busOn b m })
 
 -- the code's place, from what the last step left
-abbrev pub stoppedOf : Stepped → ℕ → ℕ → Stop
+abbrev pub stoppedOf : NearStep → ℕ → ℕ → Stop
 stoppedOf x steps cycles = record { state = x .state; steps = steps; cycles = cycles; answer = x .answer }
 
 -- what is left before the first step
