@@ -4,3 +4,4 @@ pub mod WalkLaws
 pub mod ReadLaws
 pub mod ScanLaws
 pub mod Loops
+pub mod AllRamLaws

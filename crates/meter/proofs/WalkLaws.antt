@@ -22,20 +22,14 @@ use Rattle.decode.specs.Decode.{decodeAt}
 use Rattle.decode.specs.Rows.{rowOf}
 use Rattle.decode.proofs.RowLaws.{row-bounds}
 use Rattle.meter.specs.declared.walk.Place.{Place}
-use Rattle.meter.specs.Answer.{Answer, wait, over, halts, unspecified}
+use Rattle.meter.specs.Answer.{Answer, wait, over, halts}
 use Rattle.meter.specs.Walk.{limitOf, placeAfter, Turn, ends, goesOn, rowTurn, decodedTurn, turnAt, afterTurn, walkBy, walkOn, walkFrom}
 use Rattle.meter.specs.Meter.{answerFrom, waitOf}
 use Rattle.meter.specs.Laws.{WalkEquation, AnswersTheWalk}
 
--- a turn by what stands at its place
-module _ (read : ℕ → ℕ) (limit : ℕ) (p : Place) where
-  pub turn-unspecified : decodeAt read (p .address) (p .double) ≡ Unspecified → turnAt read limit p ≡ ends (unspecified (p .address))
-  unfolding turnAt
-  turn-unspecified e = ap (decodedTurn limit p) e
-
-  pub turn-row : {i : Instr} {row : Row} → decodeAt read (p .address) (p .double) ≡ Known i → row ≡ rowOf i (p .double) → turnAt read limit p ≡ rowTurn limit p row
-  unfolding turnAt
-  turn-row e q = ap (decodedTurn limit p) e ∙ ap (rowTurn limit p) (sym q)
+-- a turn by what is decoded at its place
+pub turn-row : (limit : ℕ) (p : Place) {x : Decoded} {i : Instr} {row : Row} → x ≡ Known i → row ≡ rowOf i (p .double) → decodedTurn limit p x ≡ rowTurn limit p row
+turn-row limit p e q = ap (decodedTurn limit p) e ∙ ap (rowTurn limit p) (sym q)
 
 -- a turn by its row
 module _ (limit : ℕ) (p : Place) (row : Row) where

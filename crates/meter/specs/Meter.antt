@@ -14,7 +14,7 @@ use Rattle.meter.specs.Scan.{longestBy, lowestBy}
 abbrev pub answerFrom : Bus → ℕ → ℕ → Answer
 answerFrom b limit a = walkFrom (readOf b) (limitOf limit) a
 
--- the meter for an address; refusals 1 and 8, "lowest applicable first"
+-- the meter for an address; refusals 1, "directly after 1" 14, which a board's map brings, and 8
 unfoldable pub waitOf : Bus → ℕ → ℕ → Report Answer
 waitOf b a limit =
     unlessBarred (admissionOf b) (λ r. refused (refusalNumber r))
@@ -28,7 +28,7 @@ namedOf answers first last =
       lowest-over = lowestBy (suc last - first) answers first;
     }
 
--- the meter for a region; refusals 1, 7 and 8
+-- the meter for a region; refusals 1, 14, 7 and 8
 unfoldable pub regionOf : Bus → ℕ → ℕ → ℕ → Report Named
 regionOf b first last limit =
     unlessBarred (admissionOf b) (λ r. refused (refusalNumber r))

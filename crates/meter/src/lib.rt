@@ -1,10 +1,12 @@
 // The wait meter: after how many cycles a request is heard, from an address and over a region, found by a walk over the code.
 ghost use mathlib.Core.Path.{_≡_};
-ghost use Rattle.memory.specs.Bus.{busOf};
+ghost use Rattle.memory.specs.Bus.{busOn};
 ghost use Rattle.meter.specs.Answer.{waitReport, regionReport};
 ghost use Rattle.meter.specs.Meter.{waitOf, regionOf};
 use crate::walk::Next;
 use memory::Admission;
+use memory::map::Board;
+use memory::near;
 use refusal::Refusal;
 
 mod scan;
@@ -48,10 +50,10 @@ pub enum RegionAnswer {
 }
 
 // The meter for an address.
-pub fn wait(mem: &[u16], address: u16, limit: u16) -> WaitAnswer
-    ensures { λ r. ⌜ waitReport r ≡ waitOf (busOf (now (mem .entry))) address limit ⌝ }
+pub fn wait(board: Board, mem: &[u16], address: u16, limit: u16) -> WaitAnswer
+    ensures { λ r. ⌜ waitReport r ≡ waitOf (busOn board (now (mem .entry))) address limit ⌝ }
 {
-    let admission = memory::admit(mem);
+    let admission = memory::admit(board, mem);
     if let Admission::Barred(refusal) = admission {
         return WaitAnswer::Refused(refusal);
     }
@@ -59,9 +61,15 @@ pub fn wait(mem: &[u16], address: u16, limit: u16) -> WaitAnswer
         return WaitAnswer::Refused(Refusal::LimitTooHigh);
     }
     let walk_limit = walk::limit_of(limit);
+    let at_hand = near::near_to(board, near::no_range(), address);
     let mut place = walk::start_at(address);
     loop {
-        let next = walk::turn(mem, walk_limit, place);
+        // the decoding stands here, and in `region`, and not in `turn`: one function with both is too long for the compiler to make one
+        // with the loops
+        let at = place.address;
+        let instr = decode::instruction(memory::read(board, at_hand, mem, at) % 1024);
+        let decoded = decode::specified_at(board, at_hand, mem, at, instr, place.double);
+        let next = walk::turn(decoded, walk_limit, place);
         match next {
             Next::Ends(walked) => return WaitAnswer::Answered(walked),
             Next::GoesOn(after) => place = after,
@@ -70,10 +78,10 @@ pub fn wait(mem: &[u16], address: u16, limit: u16) -> WaitAnswer
 }
 
 // The meter for a region: every address from first to last is a start.
-pub fn region(mem: &[u16], first: u16, last: u16, limit: u16) -> RegionAnswer
-    ensures { λ r. ⌜ regionReport r ≡ regionOf (busOf (now (mem .entry))) first last limit ⌝ }
+pub fn region(board: Board, mem: &[u16], first: u16, last: u16, limit: u16) -> RegionAnswer
+    ensures { λ r. ⌜ regionReport r ≡ regionOf (busOn board (now (mem .entry))) first last limit ⌝ }
 {
-    let admission = memory::admit(mem);
+    let admission = memory::admit(board, mem);
     if let Admission::Barred(refusal) = admission {
         return RegionAnswer::Refused(refusal);
     }
@@ -86,10 +94,14 @@ pub fn region(mem: &[u16], first: u16, last: u16, limit: u16) -> RegionAnswer
     let walk_limit = walk::limit_of(limit);
     let mut longest = LongestWait::NoWait;
     let mut lowest = LowestOver::NoOver;
+    let at_hand = near::near_to(board, near::no_range(), first);
     'scan: for start in first..=last {
         let mut place = walk::start_at(start);
         let walked = 'walk: loop {
-            let next = walk::turn(mem, walk_limit, place);
+            let at = place.address;
+            let instr = decode::instruction(memory::read(board, at_hand, mem, at) % 1024);
+            let decoded = decode::specified_at(board, at_hand, mem, at, instr, place.double);
+            let next = walk::turn(decoded, walk_limit, place);
             match next {
                 Next::Ends(answer) => break 'walk answer,
                 Next::GoesOn(after) => place = after,

@@ -1,8 +1,7 @@
 // The walk over the code: one turn of it is one instruction. The meters for an address and for a region share it.
 ghost use mathlib.Core.Path.{_≡_};
 ghost use Prim.Native.Nat.{_≤_};
-ghost use Rattle.memory.specs.Bus.{busOf, readOf};
-ghost use Rattle.meter.specs.Walk.{startAt, limitOf, turned, turnAt};
+ghost use Rattle.meter.specs.Walk.{startAt, limitOf, turned, decodedTurn};
 use crate::Walked;
 use decode::Decoded;
 use decode::rows;
@@ -43,12 +42,11 @@ pub(crate) fn start_at(address: u16) -> Place
     }
 }
 
-// One instruction of the walk.
-pub(crate) fn turn(mem: &[u16], limit: u16, place: Place) -> Next
+// One instruction of the walk, once it is decoded.
+pub(crate) fn turn(decoded: Decoded, limit: u16, place: Place) -> Next
     requires { ⌜ (place .sum ≤ limit) × (limit ≤ 4096) ⌝ }
-    ensures { λ r. ⌜ turned r ≡ turnAt (readOf (busOf (now (mem .entry)))) limit place ⌝ }
+    ensures { λ r. ⌜ turned r ≡ decodedTurn limit place decoded ⌝ }
 {
-    let decoded = decode::decode_at(mem, place.address, place.double);
     let Decoded::Known(instr) = decoded else {
         return Next::Ends(Walked::Unspecified {
             address: place.address,

@@ -1,32 +1,33 @@
--- The walk's loop keeps `Walking` and is left with a start's answer; the scan around it keeps `Scanning`.
+-- The walk's loop keeps `Walking` with the range at hand and is left with a start's answer; the scan around it keeps `Scanning`.
 use Prim.Native.Nat.{_-_}
 use mathlib.Core.Path.{sym, _∙_}
 use native.Mathlib.Omega.{arith}
 use borrow.Author.Needs.{needs}
 use borrow.Author.Tests.{lt-ltb, le-ltb}
 use Rattle.word.proofs.Choice.{cond-true, cond-false}
-use Rattle.memory.specs.Bus.{busOf, readOf}
+use Rattle.memory.specs.Bus.{busOn, readOf}
+use Rattle.memory.specs.Near.{inFront}
 use Rattle.memory.proofs.BusLaws.{unless-in, unless-out}
 use Rattle.meter.specs.Answer.{longestOf, lowestOf}
 use Rattle.meter.specs.Walk.{walkFrom}
 use Rattle.meter.specs.Meter.{regionOf}
 use Rattle.meter.proofs.WalkLaws.{limit-low}
-use Rattle.meter.proofs.Loops.{Walking, walking, walking-on, walking-less, walking-ends, Scanning, scanning, scanning-on, scanning-end, region-end}
+use Rattle.meter.proofs.Loops.{at-hand, Walking, walking, decoded-turn, Turns, walking-on, walking-less, walking-ends, Scanning, scanning, scanning-on, scanning-end, region-end}
 use Rattle.meter.proofs.region.Statement.{statement}
 use Rattle.meter.proofs.region.Tie as tie
 
 abbrev Inv-walk : tie.InvT-walk
-Inv-walk mem first last limit walk-limit longest lowest start place₀ place = Walking (readOf (busOf mem)) walk-limit start place
+Inv-walk board mem first last limit walk-limit longest lowest near start place₀ place = Walking (readOf (busOn (inFront near board) mem)) walk-limit start place
 
 abbrev μ-walk : tie.MeasureT-walk
-μ-walk mem first last limit walk-limit longest lowest start place₀ place = walk-limit - place .sum
+μ-walk board mem first last limit walk-limit longest lowest near start place₀ place = walk-limit - place .sum
 
 abbrev Inv-scan : tie.InvT-scan
-Inv-scan mem first last limit walk-limit longest₀ lowest₀ start₀ longest lowest start =
-    Scanning (walkFrom (readOf (busOf mem)) walk-limit) first last start (longestOf longest) (lowestOf lowest)
+Inv-scan board mem first last limit walk-limit longest₀ lowest₀ near start₀ longest lowest start =
+    Scanning (walkFrom (readOf (busOn (inFront near board) mem)) walk-limit) first last start (longestOf longest) (lowestOf lowest)
 
 abbrev μ-scan : tie.MeasureT-scan
-μ-scan mem first last limit walk-limit longest₀ lowest₀ start₀ longest lowest start = last - start
+μ-scan board mem first last limit walk-limit longest₀ lowest₀ near start₀ longest lowest start = last - start
 
 returns : tie.Need-returns Inv-walk μ-walk Inv-scan μ-scan
 unfolding regionOf
@@ -48,25 +49,40 @@ returns-3 c =
     ∙ cond-true _ _ (lt-ltb _ _ (c .if2 .taken)))
 
 scan-holds : tie.Need-scan-holds Inv-walk μ-walk Inv-scan μ-scan
-scan-holds c = scanning (c .before .before .if1 .left)
+scan-holds c = scanning (c .before .before .before .before .if1 .left)
 
 walk-holds : tie.Need-walk-holds Inv-walk μ-walk Inv-scan μ-scan
-walk-holds c = let l = c .before .before .before in walking (c .start-at .ensures) (rw (l .limit-of .ensures) (limit-low _ (l .before .if2 .left)))
+walk-holds c = let l = c .before .before .before .before .before in walking (c .start-at .ensures) (rw (l .limit-of .ensures) (limit-low _ (l .before .if2 .left)))
 
 turn-requires : tie.Need-turn-requires Inv-walk μ-walk Inv-scan μ-scan
-turn-requires c κs = (c .walk .inv .low, c .walk .inv .small)
+turn-requires c κs = let k = c .before .before .before .walk .inv in (k .low, k .small)
+
+-- the turn is of what the loop decodes
+turns : (t : tie.After-turn Inv-walk μ-walk Inv-scan μ-scan) → Turns (t .before .before .before .before .walk .inv) (t .turn .result)
+turns t =
+    let d = t .before in
+    t .turn .ensures ∙ decoded-turn (d .before .before .before .walk .inv) (d .before .before .read .ensures) (d .before .instruction .ensures) (d .specified-at .ensures)
 
 walk-less : tie.Need-walk-less Inv-walk μ-walk Inv-scan μ-scan
-walk-less c = walking-less (c .before .before .before .before .walk .inv) (c .before .before .before .turn .ensures) (c .before .next2 .given .1)
+walk-less c = let t = c .before .before .before in walking-less (t .before .before .before .before .walk .inv) (turns t) (c .before .next2 .given .1)
 
 walk-again : tie.Need-walk-again Inv-walk μ-walk Inv-scan μ-scan
-walk-again c = walking-on (c .before .before .before .before .walk .inv) (c .before .before .before .turn .ensures) (c .before .next2 .given .1)
+walk-again c = let t = c .before .before .before in walking-on (t .before .before .before .before .walk .inv) (turns t) (c .before .next2 .given .1)
+
+-- `last` is a 16-bit number: said where the call starts, which lies too far back for `omega` to look there
+add-start : tie.Need-add-start Inv-walk μ-walk Inv-scan μ-scan
+add-start c =
+    let t = c .before .before .before .before .before .before in
+    let w = t .before .before .before .before in
+    let l = w .before .before .before .before .before .before in
+    omega (arith, l .before .before .before .before .before .before .before .fits .last)
 
 scan-again : tie.Need-scan-again Inv-walk μ-walk Inv-scan μ-scan
 scan-again c =
-    let t = c .before .before .before in
+    let k = c .before .before .before in
+    let t = k .before .before .before in
     let w = t .before .before .before .before in
-    scanning-on (w .before .before .before .scan .inv) (walking-ends (w .walk .inv) (t .before .before .before .turn .ensures) (t .before .next .given .1)) (c .before .before .longer .ensures)
+    scanning-on (w .before .before .before .scan .inv) (walking-ends (w .walk .inv) (turns t) (k .before .next .given .1)) (c .before .before .longer .ensures)
     (c .before .lower .ensures) (c .if3 .taken)
 
 returns-4 : tie.Need-returns-4 Inv-walk μ-walk Inv-scan μ-scan
@@ -74,13 +90,16 @@ returns-4 c = absurd (omega arith)
 
 returns-5 : tie.Need-returns-5 Inv-walk μ-walk Inv-scan μ-scan
 returns-5 c =
-    let t = c .before .before .before in
+    let k = c .before .before .before in
+    let t = k .before .before .before in
     let w = t .before .before .before .before in
     let s = w .before .before .before in
-    let l = s .before in
+    let n = s .before in
+    let l = n .before .before in
     let e = l .before .before .before in
     region-end _ _ _ _ _
-    (scanning-end (s .scan .inv) (walking-ends (w .walk .inv) (t .before .before .before .turn .ensures) (t .before .next .given .1)) (c .before .before .longer .ensures) (c .before .lower .ensures) (c .if3 .left))
+    (scanning-end (s .scan .inv) (walking-ends (w .walk .inv) (turns t) (k .before .next .given .1)) (c .before .before .longer .ensures) (c .before .lower .ensures) (c .if3 .left))
+    (at-hand _ _ _ (n .before .no-range .ensures) (n .near-to .ensures))
     (l .limit-of .ensures)
     (sym (e .before .before .admit .ensures) ∙ e .enum-told .given .1)
     (l .before .before .if1 .left)
@@ -101,9 +120,14 @@ region-spec =
     returns-2
     returns-3
     (λ c κs. search needs)
+    (λ c κs. search needs)
+    (λ c κs. search needs)
     scan-holds
     (λ c κs. search needs)
     walk-holds
+    (λ c κs. search needs)
+    (λ c κs. search needs)
+    (λ c κs. search needs)
     turn-requires
     (λ c. search needs)
     (λ c. search needs)
@@ -111,7 +135,7 @@ region-spec =
     walk-again
     (λ c κs. search needs)
     (λ c κs. search needs)
-    (λ c. omega arith)
+    add-start
     (λ c. omega arith)
     scan-again
     returns-4

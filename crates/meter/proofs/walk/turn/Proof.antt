@@ -1,29 +1,28 @@
 -- `walk::turn` goes by document 01's rules in their order, each a law of the walk's turn.
 use Prim.Native.Nat.{_≤_}
-use mathlib.Core.Path.{_≡_, sym, _∙_}
+use mathlib.Core.Path.{_≡_, ap, sym, _∙_}
 use borrow.Author.Needs.{needs}
-use Rattle.memory.specs.Bus.{busOf, readOf}
 use Rattle.decode.proofs.RowLaws.{row-bounds}
-use Rattle.meter.specs.Walk.{placeAfter, rowTurn, turnAt}
-use Rattle.meter.proofs.WalkLaws.{turn-unspecified, turn-row, row-over, row-halts, row-waits, row-goes}
+use Rattle.meter.specs.Walk.{placeAfter, rowTurn, decodedTurn}
+use Rattle.meter.proofs.WalkLaws.{turn-row, row-over, row-halts, row-waits, row-goes}
 use Rattle.meter.proofs.walk.turn.Statement.{statement}
 use Rattle.meter.proofs.walk.turn.Tie as tie
 
 -- once the row is known, the turn is the row's
 module _ (c : tie.After-row-of) where
-  by-row : turnAt (readOf (busOf (c .before .before .before .before .before .before .args .mem .now))) (c .before .before .before .before .before .before .args .limit) (c .before .before .before .before .before .before .args .place) ≡ rowTurn (c .before .before .before .before .before .before .args .limit) (c .before .before .before .before .before .before .args .place) (c .row-of .result)
+  by-row :
+      let a = c .before .before .before .before .args in
+      decodedTurn (a .limit) (a .place) (a .decoded) ≡ rowTurn (a .limit) (a .place) (c .row-of .result)
   by-row =
-      let a = c .before .before .before .before .before .before .args in
-      turn-row (readOf (busOf (a .mem .now))) (a .limit) (a .place) (sym (c .before .before .before .before .decode-at .ensures .instruction) ∙ c .before .before .decoded .given .1) (c .row-of .ensures)
+      let a = c .before .before .before .before .args in
+      turn-row (a .limit) (a .place) (c .before .before .decoded .given .1) (c .row-of .ensures)
 
   -- and its cycles are few
   few : c .row-of .result .cycles ≤ 12
-  few = rw (c .row-of .ensures) (row-bounds .most (c .before .before .decoded .given .0 .0) (c .before .before .before .before .before .before .args .place .double))
+  few = rw (c .row-of .ensures) (row-bounds .most (c .before .before .decoded .given .0 .0) (c .before .before .before .before .args .place .double))
 
 returns : tie.Need-returns
-returns c =
-    let a = c .before .before .before .before .args in
-    sym (turn-unspecified (readOf (busOf (a .mem .now))) (a .limit) (a .place) (sym (c .before .before .decode-at .ensures .instruction) ∙ c .enum-told .given .1))
+returns c = sym (ap (decodedTurn _ _) (c .enum-told .given .1))
 
 cast-sum : tie.Need-cast-sum
 cast-sum c = let h = few (c .before) in search needs
@@ -52,7 +51,6 @@ pub turn-spec : {M : Type 1} → statement M
 turn-spec =
     tie.close
     (tie.spec
-    (λ c κs. search needs)
     (λ c. search needs)
     (λ c. search needs)
     returns
