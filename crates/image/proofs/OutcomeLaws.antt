@@ -1,4 +1,5 @@
--- What can come of a loading and of a writing: each way of the definitions is a refusal, or answers a small number.
+-- What can come of a loading and of a writing: each way of the definitions is a refusal, or answers a small number; and no loading changes how
+-- many words there are.
 use Prim.Native.Nat.{ℕ, zero, suc, _≤_}
 use mathlib.Core.Path.{_≡_, refl}
 use mathlib.Core.List.{List}
@@ -15,12 +16,14 @@ use Rattle.memory.specs.Memory.{tooLong}
 use Rattle.word.proofs.Choice.{cond-both, cond-either}
 use Rattle.records.specs.Records.{Record, isWithin}
 use Rattle.records.specs.Cut.{spanOf}
+use Rattle.records.proofs.PlacedLaws.{placed-laws}
 use Rattle.image.specs.Format.{headLength, headSum}
 use Rattle.image.specs.Read.{Opening, opened, unopened, Part, recordPart, tailPart, offencePart, partOf, Body, whole}
 use Rattle.image.specs.Read.{broken, withRecord, follow, bodyFrom, bodyOf}
 use Rattle.image.specs.Load.{Loading, refuseLoad, isFor, sumAgrees, sumTested, boardTested, loadWith}
 use Rattle.image.specs.Write.{Writing, refuseWrite, regionImage, writing, writeWith}
-use Rattle.image.specs.Laws.{LoadRefusesOrAnswers, WriteRefusesOrAnswers}
+use Rattle.image.specs.Laws.{LoadRefusesOrAnswers, LoadKeepsLength, WriteRefusesOrAnswers}
+use Rattle.image.proofs.ReadLaws.{read-records-fit}
 
 -- a body has no more records than bytes
 abbrev countOf : Body → ℕ
@@ -65,6 +68,24 @@ load-refuses-or-answers opening limit board m file =
         (omega (arith, length-drop (headLength head) file, body-count limit (length m) rest)))
         (inl (WrongBoard, refl))
     by-head (unopened e) = inl (e, refl)
+
+pub load-keeps-length : LoadKeepsLength
+unfolding loadWith
+load-keeps-length opening limit board m file = cond-both Same (tooLong m) refl (by-head (opening file))
+  where
+    Same : Loading → Type 0
+    Same l = length (l .memory) ≡ length m
+
+    by-body : (head : ℕ) (bytes : List ℕ) (b : Body) → bodyOf limit (length m) bytes ≡ b → Same (sumTested m head b)
+    by-body head bytes (whole rs stated) e =
+        cond-both Same (sumAgrees head rs stated) (placed-laws .keeps-length m rs (read-records-fit limit (length m) bytes rs stated e .1)) refl
+    by-body head bytes (broken r) e = refl
+
+    by-head : (o : Opening) → Same (boardTested limit board m file o)
+    by-head (opened head) =
+        let rest = drop (headLength head) file in
+        cond-both Same (isFor head board) (by-body (headSum head) rest (bodyOf limit (length m) rest) refl) refl
+    by-head (unopened e) = refl
 
 abbrev WriteEnds : List ℕ → Writing → Type 0
 WriteEnds room w = ((r : Refusal) × (w ≡ refuseWrite room r)) ⊎ ((n : ℕ) × ((w .answer ≡ answered n) × (n ≤ length room)))

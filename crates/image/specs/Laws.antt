@@ -160,6 +160,12 @@ LoadRefusesOrAnswers =
     ((r : Refusal) × (loadWith opening limit board m file ≡ refuseLoad m r))
     ⊎ ((n : ℕ) × ((loadWith opening limit board m file .answer ≡ answered n) × (n ≤ length file)))
 
+-- whatever comes of a loading, the memory has as many words as before
+abbrev pub LoadKeepsLength : Type 0
+LoadKeepsLength =
+    (opening : List ℕ → Opening) (limit board : ℕ) (m file : List ℕ) →
+    length (loadWith opening limit board m file .memory) ≡ length m
+
 -- what can come of a writing: a refusal, and every byte is as it was; or an answer, of a file that fits the room
 abbrev pub WriteRefusesOrAnswers : Type 0
 WriteRefusesOrAnswers =

@@ -14,6 +14,7 @@ use Rattle.memory.specs.Laws.{BusWords}
 use Rattle.memory.proofs.Laws.{fits-words}
 use Rattle.memory.proofs.BusLaws.{bus-laws, read-within}
 use Rattle.decode.specs.Fields.{opcodeOf}
+use Rattle.decode.specs.Decode.{decodeWords}
 use Rattle.listing.specs.declared.line.Line.{Line}
 use Rattle.listing.specs.declared.entry.RowEntry.{RowEntry}
 use Rattle.refusal.specs.Report.{Report, answered}
@@ -27,12 +28,12 @@ use Rattle.listing.specs.inner.Rows.{templateOf, baseOf}
 use Rattle.listing.specs.inner.Line.{textOf}
 use Rattle.listing.specs.inner.Table.{paddedOf, endsAt}
 use Rattle.listing.specs.inner.Guess.{Guesses}
-use Rattle.listing.specs.inner.Entry.{rowEntryAt, rowTextAt}
-use Rattle.listing.specs.inner.Encode.{lineRead, wordCount, jumpWord, jumpWords, plainWords, encoded, firstWords, memoryAs}
+use Rattle.listing.specs.inner.Entry.{rowEntryOf, rowEntryAt, rowTextAt}
+use Rattle.listing.specs.inner.Encode.{lineRead, wordCount, jumpWord, jumpWords, plainWords, opcodeIn, encoded, firstWords, memoryAs}
 use Rattle.listing.proofs.Tests.{clash, same-true, same-eq}
 use Rattle.listing.proofs.Table.{base-low, ends-length}
 use Rattle.listing.proofs.Lines.{text-length}
-use Rattle.listing.proofs.Entries.{entry-in}
+use Rattle.listing.proofs.Entries.{entry-in, entry-of-words}
 use Rattle.listing.proofs.Back.{read-row, read-16}
 use Rattle.listing.proofs.EntryWith.{entryWith, cutWith, entry-with, cut-with, Trip}
 use Rattle.listing.proofs.Trip.{trip}
@@ -104,7 +105,7 @@ module _ (read : ℕ → ℕ) (at : ℕ) (double : Bool) (word : read (wrapAdd a
       ∙ there .first
       ∙ sym (cut-with read at double)
 
-three-fit : (x y z : ℕ) → x < 65536 → y < 65536 → z < 65536 → BusWords (busOf (x ∷ y ∷ z ∷ []))
+pub three-fit : (x y z : ℕ) → x < 65536 → y < 65536 → z < 65536 → BusWords (busOf (x ∷ y ∷ z ∷ []))
 three-fit x y z h k l = bus-laws .words (x ∷ y ∷ z ∷ []) (fits-words (x ∷ y ∷ z ∷ []) go)
   where
     go : (a : ℕ) → getD (x ∷ y ∷ z ∷ []) a 0 < 65536
@@ -112,6 +113,22 @@ three-fit x y z h k l = bus-laws .words (x ∷ y ∷ z ∷ []) (fits-words (x �
     go (suc zero) = k
     go (suc (suc zero)) = l
     go (suc (suc (suc a))) = lit< tt
+
+-- the words of a line are three, and list by themselves as they do in a memory of their own
+encoded-three : (l : Line) (double : Bool) → length (encoded l double) ≡ 3
+unfolding encoded jumpWords plainWords
+encoded-three l double =
+    let Three : List ℕ → Type 0 = λ ws. length ws ≡ 3 in
+    cond-both Three (leb 79 (l .row)) refl (cond-both Three (eqb (wordCount (opcodeIn l) double) 3) refl refl)
+
+pub own-entry : (l : Line) (double : Bool)
+    → rowEntryOf (decodeWords (getD (encoded l double) 0 0) (getD (encoded l double) 1 0)) double (getD (encoded l double) 1 0) (getD (encoded l double) 2 0)
+    ≡ rowEntryAt (readOf (busOf (encoded l double))) 0 double
+unfolding wrapAdd
+own-entry l double =
+    let ws : List ℕ = encoded l double in
+    let n : length ws ≡ 3 = encoded-three l double in
+    rw (← read-within ws 0 (omega arith), ← read-within ws 1 (omega arith), ← read-within ws 2 (omega arith)) (entry-of-words (readOf (busOf ws)) 0 double)
 
 -- the words of a line are 16-bit words
 words-fit : (l : Line) (double : Bool) → l .row < 86 → l .operand < 65536 → BusWords (busOf (encoded l double))

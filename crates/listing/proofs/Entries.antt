@@ -14,9 +14,10 @@ use Rattle.decode.specs.declared.Instr.the-variants.{Hlt, Control, Jump, Single
 use Rattle.decode.specs.declared.Decoded.{Decoded}
 use Rattle.decode.specs.declared.Decoded.the-variants.{Unspecified, Known}
 use Rattle.decode.specs.Fields.{isExternal, Return, noReturn, returnIn, returnOf, jumpTarget, jumpBits}
-use Rattle.decode.specs.Decode.{decodeAt}
+use Rattle.decode.specs.Decode.{decodeAt, decodeWords}
 use Rattle.decode.specs.Rows.{rowOf}
 use Rattle.decode.proofs.RowLaws.{row-bounds}
+use Rattle.decode.proofs.DecodeLaws.{decodes-in-steps}
 use Rattle.listing.specs.declared.line.Line.{Line}
 use Rattle.listing.specs.Line.{lineOperand}
 use Rattle.listing.specs.Disassemble.{entryOf, entryAt}
@@ -107,6 +108,12 @@ entry-in read at double = go (decodeAt read at false)
     go : (x : Decoded) → InTable (rowEntryOf x double (read (wrapAdd at 1)) (read (wrapAdd at 2)) .line)
     go Unspecified = lit< tt
     go (Known i) = line-in i (lineOperand (rowOf i double .words) (read (wrapAdd at 1)) (read (wrapAdd at 2))) (read (wrapAdd at 1)) (read (wrapAdd at 2))
+
+-- the words at an address are decoded by themselves
+pub entry-of-words : (read : ℕ → ℕ) (at : ℕ) (double : Bool)
+    → rowEntryOf (decodeWords (read at) (read (wrapAdd at 1))) double (read (wrapAdd at 1)) (read (wrapAdd at 2)) ≡ rowEntryAt read at double
+unfolding rowEntryAt
+entry-of-words read at double = ap (λ (x : Decoded). rowEntryOf x double (read (wrapAdd at 1)) (read (wrapAdd at 2))) (decodes-in-steps .words read at)
 
 -- words used are the same in document 01's entry
 pub entry-words : (read : ℕ → ℕ) (at : ℕ) (double : Bool) → entryAt read at double .words ≡ rowEntryAt read at double .words

@@ -21,4 +21,5 @@ pub mod Itself
 pub mod RowTable
 pub mod Answers
 pub mod Bounds
+pub mod AllRam
 pub mod Examples

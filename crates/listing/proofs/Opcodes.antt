@@ -3,13 +3,11 @@ use Prim.Native.Nat.{ℕ, suc, _+_, _*_, _/_, _%_, _<_}
 use mathlib.Core.Path.{_≡_, refl, ap}
 use mathlib.Core.Bool.{Bool, true, false, cond, not, _&&_, _||_}
 use native.Mathlib.Omega.{arith}
-use mathlib.Core.List.{[], _∷_}
-use lib.Dec.{T, eqb, ltb, eqb→eq, leb→le, lit<}
-use Rattle.memory.proofs.BusLaws.{read-within}
+use lib.Dec.{T, eqb, ltb, eqb→eq, leb→le}
 use Rattle.decode.specs.declared.Instr.{Instr}
 use Rattle.decode.specs.declared.Instr.the-variants.{Hlt, Control, Jump, Single, Gswd, Nop, Sin, Shift, Register, Branch, Store, Read}
 use Rattle.decode.specs.Fields.{isExternal, inputNumber}
-use Rattle.decode.specs.Decode.{controlInstruction, statusInstruction, lowInstruction, instructionOf, isUnspecified, decodeAt}
+use Rattle.decode.specs.Decode.{controlInstruction, statusInstruction, lowInstruction, instructionOf, decodeWords}
 use Rattle.decode.specs.Rows.{interruptibleEntry, plainEntry, haltEntry, controlEntry, jumpEntry, registerEntry, shiftEntry, branchEntry, memoryWords, storeEntry, readWords, readEntry, rowOf}
 use Rattle.listing.specs.Text.{digitOf}
 use Rattle.listing.specs.inner.Rows.{rows, templateOf, baseOf}
@@ -133,10 +131,10 @@ module _ (w : ℕ) (h : w < 1024) (e : eqb w 4 ≡ false) where
   counts-at false = both-left (counts w false) (counts w true) counted
   counts-at true = both-right (counts w false) (counts w true) counted
 
-  -- the opcode by itself is decoded as the instruction
+  -- the opcode with a 0 after it is decoded as the instruction
   pub count-at : (double : Bool) → wordCount w double ≡ rowOf (instructionOf w) double .words
-  unfolding wordCount decodeAt isUnspecified
-  count-at double = let m : w % 1024 ≡ w = omega arith in rw (read-within (w ∷ []) 0 (lit< tt), m, e)
+  unfolding wordCount decodeWords
+  count-at double = let m : w % 1024 ≡ w = omega arith in rw (m, e)
 
   pub plain-line : (x a b : ℕ) → rowLineOf (instructionOf w) x a b ≡ withOperand (shape w) x
   unfolding shape

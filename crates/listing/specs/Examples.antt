@@ -1,11 +1,14 @@
--- Document 01, "Listing lines": its own examples, each with words that list so. They hold by computing the definitions.
+-- Document 01, "Listing lines": its own examples, each with words that list so, and lines of four kinds that give their words back. The lists hold by
+-- computing the definitions.
 use Prim.Native.Nat.{ℕ}
 use mathlib.Core.Path.{_≡_}
 use mathlib.Core.Bool.{true, false}
 use mathlib.Core.List.{List, [], _∷_}
+use Rattle.refusal.specs.Report.{answered}
 use Rattle.memory.specs.Bus.{busOf, readOf}
 use Rattle.listing.specs.Text.{codes}
 use Rattle.listing.specs.Disassemble.{textAt}
+use Rattle.listing.specs.Assemble.{assembleOf}
 
 -- the line of some words, with D clear, and under D
 abbrev pub lineFrom : List ℕ → List ℕ
@@ -42,3 +45,8 @@ pub record DocumentLines : Type 0 where
   -- "stack reads under D list as without it"; an immediate's two words are joined, low half first
   pub stack-under-D : lineUnderD (0x2B0 ∷ []) ≡ codes "MVI@ R6,R0"
   pub immediate-under-D : lineUnderD (0x2B8 ∷ 0x34 ∷ 0x12 ∷ []) ≡ codes "MVII #$1234,R0"
+  -- "Cut so, a listed instruction's words come back equal"
+  pub register-back : assembleOf (codes "ADDR R1,R2") false ≡ answered (0x0CA ∷ [])
+  pub branch-back : assembleOf (codes "BEQ -$0001") false ≡ answered (0x224 ∷ 0x0001 ∷ [])
+  pub call-back : assembleOf (codes "JSR R5,$1234") false ≡ answered (0x004 ∷ 0x110 ∷ 0x234 ∷ [])
+  pub decle-back : assembleOf (codes "DECLE $0004") false ≡ answered (0x004 ∷ [])

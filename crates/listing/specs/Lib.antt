@@ -1,6 +1,6 @@
 -- What the disassembler and the assembler promise, in document 01's terms. `Text` has the bytes of a text, `Line` the line of an instruction,
--- `Disassemble` and `Assemble` the two calls, `Cut` the words that a line gives, `Laws` what holds of both calls together, and `Examples`
--- document 01's own lines.
+-- `Disassemble` and `Assemble` the two calls, `Cut` the words that a line gives, `Laws` what holds of both calls together, `AllRam` that an
+-- all-RAM map changes nothing, and `Examples` document 01's own lines.
 pub mod Text
 pub mod Answer
 pub mod Line
@@ -8,5 +8,6 @@ pub mod Disassemble
 pub mod Cut
 pub mod Assemble
 pub mod Laws
+pub mod AllRam
 pub mod Examples
 pub mod inner

@@ -1,7 +1,7 @@
 // The disassembler (document 01's lister) and the one-line assembler: what line stands for which words.
 ghost use mathlib.Core.Path.{_≡_};
 ghost use Prim.Native.Nat.{_%_};
-ghost use Rattle.memory.specs.Bus.{busOf};
+ghost use Rattle.memory.specs.Bus.{busOn};
 ghost use Rattle.refusal.specs.Report.{answered};
 ghost use Rattle.listing.specs.Text.{digitOf};
 ghost use Rattle.listing.specs.Answer.{assemblyReported};
@@ -9,6 +9,7 @@ ghost use Rattle.listing.specs.Disassemble.{disassembly, disassembleOf};
 ghost use Rattle.listing.specs.Assemble.{assembleOf};
 ghost use Rattle.listing.specs.inner.Encode.{firstWords};
 use memory::Admission;
+use memory::map::Board;
 use refusal::Refusal;
 
 mod encode;
@@ -39,17 +40,17 @@ pub enum Assembly {
 pub const TEXT_ROOM: usize = 16;
 
 // The line of the instruction at an address, with D as it stands there. Only the line's bytes are written.
-pub fn disassemble(mem: &[u16], at: u16, double: bool, text: &mut [u8]) -> Listing
-    ensures { λ r. ⌜ disassembly r (now (text .exit)) ≡ disassembleOf (busOf (now (mem .entry))) at double (now (text .entry)) ⌝ }
+pub fn disassemble(board: Board, mem: &[u16], at: u16, double: bool, text: &mut [u8]) -> Listing
+    ensures { λ r. ⌜ disassembly r (now (text .exit)) ≡ disassembleOf (busOn board (now (mem .entry))) at double (now (text .entry)) ⌝ }
 {
-    let admission = memory::admit(mem);
+    let admission = memory::admit(board, mem);
     if let Admission::Barred(refusal) = admission {
         return Listing::Refused(refusal);
     }
     if text.len() < TEXT_ROOM {
         return Listing::Refused(Refusal::TextRoomTooSmall);
     }
-    let entry = entry::entry_at(mem, at, double);
+    let entry = entry::entry_at(board, mem, at, double);
     let line = entry.line;
     let row = rows::row_at(line.row);
     let template = row.template;
@@ -92,7 +93,7 @@ pub fn assemble(text: &[u8], double: bool) -> Assembly
         return Assembly::Refused(Refusal::NotAListingLine);
     }
     let words = encode::words_of(encode::read(text, row, &template), found.base, double);
-    let entry = entry::entry_at(&words, 0, double);
+    let entry = entry::entry_of(words[0], words[1], words[2], double);
     let line = entry.line;
     if line.row != row {
         return Assembly::Refused(Refusal::NotAListingLine);

@@ -1,6 +1,7 @@
--- Laws of the input, of the room, of the lines, of the calls, and of the two loops.
+-- Laws of the input, of the room, of the lines, of the calls, of the two loops, and of the text on an all-RAM board.
 pub mod ReadingLaws
 pub mod PageLaws
 pub mod LineLaws
 pub mod CallLaws
 pub mod WalkLaws
+pub mod TextLaws

@@ -8,7 +8,7 @@ use borrow.Author.Tests.{lt-ltb, le-ltb}
 use lib.Dec.{ltb, lit≤}
 use lib.ListN.{length, length-append}
 use Rattle.word.proofs.Choice.{cond-both, cond-true, cond-false}
-use Rattle.memory.specs.Bus.{busOf, readOf}
+use Rattle.memory.specs.Bus.{Bus, readOf}
 use Rattle.records.specs.Records.{Record}
 use Rattle.image.specs.Format.{recordBytes}
 use Rattle.listing.specs.Text.{hexOf}
@@ -104,24 +104,24 @@ named-short first last named =
     simp (length-append, hex-length) (omega (arith, wait-short (named .longest-wait), over-short (named .lowest-over)))
 
 -- ten bytes of text suffice for each byte of a record in the file
-pub record-size : (program : Program) (m : List ℕ) (a c : ℕ) → 0 < c → length (linesText (recordLines program m a c)) ≤ recordBytes c * 10
+pub record-size : (program : Program) (b : Bus) (a c : ℕ) → 0 < c → length (linesText (recordLines program b a c)) ≤ recordBytes c * 10
 unfolding instructionLines regionLine
-record-size ListImage m a c h = omega (arith, lines-size c (readOf (busOf m)) (a + c) a false)
-record-size MeterImage m a c h =
-    let line = regionLine m a (a + (c - 1)) in
-    omega (arith, length-append (lineText line) [], named-short a (a + (c - 1)) (namedOf (answerFrom (busOf m) meteringLimit) a (a + (c - 1))))
+record-size ListImage b a c h = omega (arith, lines-size c (readOf b) (a + c) a false)
+record-size MeterImage b a c h =
+    let line = regionLine b a (a + (c - 1)) in
+    omega (arith, length-append (lineText line) [], named-short a (a + (c - 1)) (namedOf (answerFrom b meteringLimit) a (a + (c - 1))))
 
-pub record-few : (program : Program) (m : List ℕ) (a c : ℕ) → 0 < c → length (recordLines program m a c) ≤ c
+pub record-few : (program : Program) (b : Bus) (a c : ℕ) → 0 < c → length (recordLines program b a c) ≤ c
 unfolding instructionLines
-record-few ListImage m a c h = lines-few c (readOf (busOf m)) (a + c) a false
-record-few MeterImage m a c h = h
+record-few ListImage b a c h = lines-few c (readOf b) (a + c) a false
+record-few MeterImage b a c h = h
 
 -- the metering has one line for each record
-metering-counts : (m : List ℕ) (rs : List Record) → length rs ≡ length (recordsLines MeterImage m rs)
-metering-counts m [] = refl
-metering-counts m (r ∷ rs) = ap suc (metering-counts m rs)
+metering-counts : (b : Bus) (rs : List Record) → length rs ≡ length (recordsLines MeterImage b rs)
+metering-counts b [] = refl
+metering-counts b (r ∷ rs) = ap suc (metering-counts b rs)
 
 -- so that the number behind END is that of the lines in both
-pub end-number : (program : Program) (m : List ℕ) (rs : List Record) → endNumber program (recordsLines program m rs) rs ≡ length (recordsLines program m rs)
-end-number ListImage m rs = refl
-end-number MeterImage m rs = metering-counts m rs
+pub end-number : (program : Program) (b : Bus) (rs : List Record) → endNumber program (recordsLines program b rs) rs ≡ length (recordsLines program b rs)
+end-number ListImage b rs = refl
+end-number MeterImage b rs = metering-counts b rs

@@ -8,6 +8,8 @@ use lib.ListN.{length, getD, take, set, length-take, length-append}
 use lib.Seq.{take-suc, sets, length-sets, sets-eq, length-take-le}
 use Rattle.records.proofs.OverLaws.{sets-split}
 use Rattle.refusal.specs.Report.{Report, isRefused}
+use Rattle.memory.specs.Map.{allRam}
+use Rattle.memory.specs.Bus.{busOn}
 use Rattle.report.specs.declared.Program.{Program}
 use Rattle.report.specs.declared.Printed.{Printed}
 use Rattle.report.specs.declared.page.Page.{Page}
@@ -55,9 +57,9 @@ puts-as e p = rw e at p
 -- a text put at the front of the room is printed, and lies there
 module _ {before : List ℕ} {program : Program} {reading : Report ReadImage} {after : List ℕ} {printed : Printed}
     (p : Prints before program reading after printed) where
-  pub prints-text : printing printed after ≡ textPut (isRefused reading) (readingText program reading) before
+  pub prints-text : printing printed after ≡ textPut (isRefused reading) (readingText (busOn allRam) program reading) before
   prints-text =
-      let text = readingText program reading in
+      let text = readingText (busOn allRam) program reading in
       let e : printed .size ≡ length text = omega (arith, p .puts .place) in
       let z : 0 + length text ≡ length text = omega arith in
       rw (e, p .refused, p .puts .room, sets-eq text before 0 (p .puts .within), z)

@@ -6,7 +6,7 @@ use mathlib.Core.List.{List, [], _∷_, _++_, append-assoc, append-nil}
 use native.Mathlib.Omega.{arith}
 use lib.ListN.{length, take, drop, length-drop}
 use lib.Seq.{drop-drop}
-use Rattle.memory.specs.Bus.{busOf, readOf}
+use Rattle.memory.specs.Bus.{Bus, readOf}
 use Rattle.image.specs.declared.FirstRecord.{FirstRecord}
 use Rattle.image.specs.declared.FirstRecord.the-variants.{Record as FoundRecord, NoRecord}
 use Rattle.records.specs.Records.{Record}
@@ -26,19 +26,19 @@ use Rattle.report.proofs.PageLaws.{puts-length, adds-none, adds-then, a
 use Rattle.report.proofs.LineLaws.{words-some, line-short, lines-on, lines-end, record-size, record-few}
 
 -- The instructions of a record before the address `next` are listed.
-pub record Listed (m : List ℕ) (address count : ℕ) (room₀ : List ℕ) (page : Page) (room : List ℕ) (next : ℕ) (double : Bool) (at lines : ℕ) : Type 0 where
+pub record Listed (b : Bus) (address count : ℕ) (room₀ : List ℕ) (page : Page) (room : List ℕ) (next : ℕ) (double : Bool) (at lines : ℕ) : Type 0 where
   pub done : List (List ℕ)
   pub left : ℕ
   pub enough : address + count ≤ next + left
   pub space : at + (address + count - next) * 20 ≤ length room₀
   pub few : lines + (address + count - next) ≤ page .lines + count
   pub adds : Adds room₀ page done room (record { at = at; lines = lines })
-  pub same : done ++ linesFrom left (readOf (busOf m)) (address + count) next double ≡ instructionLines m address count
+  pub same : done ++ linesFrom left (readOf b) (address + count) next double ≡ instructionLines b address count
 
-pub listed-none : (m : List ℕ) (address count : ℕ) (room : List ℕ) (page : Page) → page .at + count * 20 ≤ length room
-    → Listed m address count room page room address false (page .at) (page .lines)
+pub listed-none : (b : Bus) (address count : ℕ) (room : List ℕ) (page : Page) → page .at + count * 20 ≤ length room
+    → Listed b address count room page room address false (page .at) (page .lines)
 unfolding instructionLines
-listed-none m address count room page h =
+listed-none b address count room page h =
     let e : address + count - address ≡ count = omega arith in
     record {
       done = [];
@@ -50,15 +50,15 @@ listed-none m address count room page h =
       same = refl;
     }
 
-module _ {m : List ℕ} {address count : ℕ} {room₀ : List ℕ} {page : Page} {room : List ℕ} {next : ℕ} {double : Bool} {at lines : ℕ}
-    (k : Listed m address count room₀ page room next double at lines) where
+module _ {b : Bus} {address count : ℕ} {room₀ : List ℕ} {page : Page} {room : List ℕ} {next : ℕ} {double : Bool} {at lines : ℕ}
+    (k : Listed b address count room₀ page room next double at lines) where
   pub listed-length : length room ≡ length room₀
   listed-length = puts-length (k .adds .puts)
 
-  pub listed-on : {after : List ℕ} {line : NextLine} → next < address + count → Steps (readOf (busOf m)) next double room at after line
-      → Listed m address count room₀ page after (next + line .words) (line .double) (line .at) (lines + 1)
+  pub listed-on : {after : List ℕ} {line : NextLine} → next < address + count → Steps (readOf b) next double room at after line
+      → Listed b address count room₀ page after (next + line .words) (line .double) (line .at) (lines + 1)
   listed-on {after} {line} h s =
-      let read = readOf (busOf m) in
+      let read = readOf b in
       let w = words-some read next double in
       let z = line-short read next double in
       let p = s .puts .place in
@@ -75,15 +75,15 @@ module _ {m : List ℕ} {address count : ℕ} {room₀ : List ℕ} {page : Page}
             ∙ rw (s .words, s .under, ← lines-on (k .left) read (address + count) next double (omega (arith, k .enough)) h) (k .same);
       }
 
-  pub listed-end : address + count ≤ next → Adds room₀ page (instructionLines m address count) room (record { at = at; lines = lines })
+  pub listed-end : address + count ≤ next → Adds room₀ page (instructionLines b address count) room (record { at = at; lines = lines })
   listed-end h =
-      let e : k .done ≡ instructionLines m address count =
-      sym (append-nil (k .done)) ∙ rw (lines-end (k .left) (readOf (busOf m)) (address + count) next double h) at (k .same)
+      let e : k .done ≡ instructionLines b address count =
+      sym (append-nil (k .done)) ∙ rw (lines-end (k .left) (readOf b) (address + count) next double h) at (k .same)
       in
       rw e at (k .adds)
 
 -- The records of a file before the byte `from` are printed.
-pub record Walked (program : Program) (file m room₀ : List ℕ) (at : ℕ) (room : List ℕ) (page : Page) (from : ℕ) : Type 0 where
+pub record Walked (program : Program) (b : Bus) (file room₀ : List ℕ) (at : ℕ) (room : List ℕ) (page : Page) (from : ℕ) : Type 0 where
   pub done : List (List ℕ)
   pub left : List Record
   pub stated : ℕ
@@ -92,11 +92,11 @@ pub record Walked (program : Program) (file m room₀ : List ℕ) (at : ℕ) (ro
   pub size : page .at ≤ at + from * 10
   pub few : page .lines * 2 ≤ from
   pub adds : Adds room₀ (emptyPage at) done room page
-  pub same : done ++ recordsLines program m left ≡ recordsLines program m (recordsOf file)
+  pub same : done ++ recordsLines program b left ≡ recordsLines program b (recordsOf file)
 
-pub walked-none : (program : Program) (file m room : List ℕ) (at : ℕ) → at ≤ length room → Ready file m → Walked program file m room at room (emptyPage at) headBytes
+pub walked-none : (program : Program) (b : Bus) (file m room : List ℕ) (at : ℕ) → at ≤ length room → Ready file m → Walked program b file room at room (emptyPage at) headBytes
 unfolding recordsOf
-walked-none program file m room at h r =
+walked-none program b file m room at h r =
     let w = r .whole-file in
     record {
       done = [];
@@ -111,9 +111,9 @@ walked-none program file m room at h r =
     }
 
 -- the code reads the next record off a slice from the byte `from` on
-module _ {program : Program} {file m room₀ : List ℕ} {at : ℕ} {room : List ℕ} {page : Page} {from : ℕ} (r : FirstRecord)
-    (k : Walked program file m room₀ at room page from) (n : length m ≡ boardWords)
-    (e : firstReported r ≡ firstOf (partOf recordLimit (length m) (take (length file - from) (drop from file)))) where
+module _ {program : Program} {b : Bus} {file room₀ : List ℕ} {at : ℕ} {room : List ℕ} {page : Page} {from : ℕ} (r : FirstRecord)
+    (k : Walked program b file room₀ at room page from) {size : ℕ} (n : size ≡ boardWords)
+    (e : firstReported r ≡ firstOf (partOf recordLimit size (take (length file - from) (drop from file)))) where
   first-is : firstReported r ≡ firstOf (partOf recordLimit boardWords (drop from file))
   first-is = rw (n, rest file from) at e
 
@@ -123,32 +123,32 @@ module _ {program : Program} {file m room₀ : List ℕ} {at : ℕ} {room : List
   pub walked-within : {a c : ℕ} → r ≡ FoundRecord a c → from + recordBytes c ≤ length file
   walked-within f = omega (arith, walked-record f .sound .complete, length-drop from file, k .within)
 
-  pub walked-on : {a c : ℕ} {after : List ℕ} {next : Page} → r ≡ FoundRecord a c → Adds room page (recordLines program m a c) after next
-      → Walked program file m room₀ at after next (from + recordBytes c)
+  pub walked-on : {a c : ℕ} {after : List ℕ} {next : Page} → r ≡ FoundRecord a c → Adds room page (recordLines program b a c) after next
+      → Walked program b file room₀ at after next (from + recordBytes c)
   walked-on {a} {c} {after} {next} f s =
-      let b = walked-record f in
+      let v = walked-record f in
       record {
-        done = k .done ++ recordLines program m a c;
-        left = b .records;
+        done = k .done ++ recordLines program b a c;
+        left = v .records;
         stated = k .stated;
         within = walked-within f;
-        reads = rw (← drop-drop (recordBytes c) from file) (b .reads);
-        size = omega (arith, k .size, s .puts .place, record-size program m a c (b .sound .some));
-        few = omega (arith, k .few, s .count, record-few program m a c (b .sound .some));
+        reads = rw (← drop-drop (recordBytes c) from file) (v .reads);
+        size = omega (arith, k .size, s .puts .place, record-size program b a c (v .sound .some));
+        few = omega (arith, k .few, s .count, record-few program b a c (v .sound .some));
         adds = adds-then (k .adds) s;
-        same = append-assoc (k .done) _ _ ∙ rw (b .all, words-length c (drop recordHeadBytes (drop from file))) at (k .same);
+        same = append-assoc (k .done) _ _ ∙ rw (v .all, words-length c (drop recordHeadBytes (drop from file))) at (k .same);
       }
 
-  pub walked-end : r ≡ NoRecord → length file ≤ inputLimit → Fills room₀ at (recordsLines program m (recordsOf file)) room page
+  pub walked-end : r ≡ NoRecord → length file ≤ inputLimit → Fills room₀ at (recordsLines program b (recordsOf file)) room page
   walked-end f l =
       let z : k .left ≡ [] = none-behind recordLimit boardWords (drop from file) (k .reads) (ap firstReported (sym f) ∙ first-is) in
-      let d : k .done ≡ recordsLines program m (recordsOf file) = sym (append-nil (k .done)) ∙ rw z at (k .same) in
+      let d : k .done ≡ recordsLines program b (recordsOf file) = sym (append-nil (k .done)) ∙ rw z at (k .same) in
       record {
         adds = rw d at (k .adds);
         size = omega (arith, k .size, k .within);
         few = omega (arith, k .few, k .within);
       }
 
-pub walked-length : {program : Program} {file m room₀ : List ℕ} {at : ℕ} {room : List ℕ} {page : Page} {from : ℕ}
-    → Walked program file m room₀ at room page from → length room ≡ length room₀
+pub walked-length : {program : Program} {b : Bus} {file room₀ : List ℕ} {at : ℕ} {room : List ℕ} {page : Page} {from : ℕ}
+    → Walked program b file room₀ at room page from → length room ≡ length room₀
 walked-length k = puts-length (k .adds .puts)

@@ -4,7 +4,7 @@ use Prim.Native.Nat.{ℕ, zero, suc, _+_}
 use mathlib.Core.Bool.{Bool, false, cond}
 use mathlib.Core.List.{List, [], _∷_, _++_}
 use lib.Dec.{ltb}
-use Rattle.memory.specs.Bus.{busOf, readOf}
+use Rattle.memory.specs.Bus.{Bus, readOf}
 use Rattle.listing.specs.Text.{hexOf}
 use Rattle.listing.specs.Disassemble.{entryAt, textAt}
 use Rattle.report.specs.Text.{space}
@@ -23,5 +23,5 @@ linesFrom (suc n) read end at double =
     []
 
 -- the lines of a record of so many words: "from its own address, D clear"
-unfoldable pub instructionLines : List ℕ → ℕ → ℕ → List (List ℕ)
-instructionLines m address count = linesFrom count (readOf (busOf m)) (address + count) address false
+unfoldable pub instructionLines : Bus → ℕ → ℕ → List (List ℕ)
+instructionLines b address count = linesFrom count (readOf b) (address + count) address false

@@ -1,10 +1,13 @@
--- What the listing program and the metering program print of their input, to the last byte.
+-- What the listing program and the metering program print of their input, to the last byte. How the loaded words are seen as a bus is an
+-- argument: document 02, [1], "both programs pass all-RAM", and `AllRamText` says that plain memory has the same text.
 use Prim.Native.Nat.{ℕ, _≤_}
 use mathlib.Core.Path.{_≡_}
 use mathlib.Core.Bool.{Bool}
 use mathlib.Core.List.{List, [], _∷_, _++_}
 use lib.ListN.{length, take, drop}
 use Rattle.refusal.specs.Report.{Report, refused, answered, isRefused}
+use Rattle.memory.specs.Map.{allRam}
+use Rattle.memory.specs.Bus.{Bus, busOn}
 use Rattle.records.specs.Records.{Record}
 use Rattle.listing.specs.Text.{codes, hexOf}
 use Rattle.report.specs.declared.Program.{Program}
@@ -16,14 +19,14 @@ use Rattle.report.specs.Instructions.{instructionLines}
 use Rattle.report.specs.Regions.{regionLines}
 
 -- the lines of a record of so many words, after the whole load
-abbrev pub recordLines : Program → List ℕ → ℕ → ℕ → List (List ℕ)
-recordLines ListImage m address count = instructionLines m address count
-recordLines MeterImage m address count = regionLines m address count
+abbrev pub recordLines : Program → Bus → ℕ → ℕ → List (List ℕ)
+recordLines ListImage b address count = instructionLines b address count
+recordLines MeterImage b address count = regionLines b address count
 
 -- the lines of each record in the file's order
-abbrev pub recordsLines : Program → List ℕ → List Record → List (List ℕ)
-recordsLines program m [] = []
-recordsLines program m (r ∷ rs) = recordLines program m (r .address) (length (r .words)) ++ recordsLines program m rs
+abbrev pub recordsLines : Program → Bus → List Record → List (List ℕ)
+recordsLines program b [] = []
+recordsLines program b (r ∷ rs) = recordLines program b (r .address) (length (r .words)) ++ recordsLines program b rs
 
 -- "On refusal it prints only `REFUSED n`, n decimal."
 unfoldable pub refusedLine : ℕ → List ℕ
@@ -43,17 +46,18 @@ endNumber ListImage lines rs = length lines
 endNumber MeterImage lines rs = length rs
 
 -- the first line, the lines of all records, and the last line
-unfoldable pub loadedText : Program → List ℕ → List Record → List ℕ
-loadedText program m rs =
+unfoldable pub loadedText : Program → Bus → List Record → List ℕ
+loadedText program b rs =
     lineText boardLine
-    ++ (linesText (recordsLines program m rs) ++ lineText (endLine (endNumber program (recordsLines program m rs) rs)))
+    ++ (linesText (recordsLines program b rs) ++ lineText (endLine (endNumber program (recordsLines program b rs) rs)))
 
-abbrev pub readingText : Program → Report ReadImage → List ℕ
-readingText program (refused n) = lineText (refusedLine n)
-readingText program (answered image) = loadedText program (image .memory) (image .records)
+-- `seen` is how the loaded words are seen
+abbrev pub readingText : (List ℕ → Bus) → Program → Report ReadImage → List ℕ
+readingText seen program (refused n) = lineText (refusedLine n)
+readingText seen program (answered image) = loadedText program (seen (image .memory)) (image .records)
 
-unfoldable pub reportText : Program → List ℕ → List ℕ
-reportText program input = readingText program (readingOf input)
+unfoldable pub reportText : (List ℕ → Bus) → Program → List ℕ → List ℕ
+reportText seen program input = readingText seen program (readingOf input)
 
 -- all that a printing leaves: the text's size, whether the input is refused, and the room
 pub record Printing : Type 0 where
@@ -65,8 +69,9 @@ pub record Printing : Type 0 where
 abbrev pub textPut : Bool → List ℕ → List ℕ → Printing
 textPut refusal text room = record { size = length text; refusal = refusal; room = text ++ drop (length text) room }
 
+-- "both programs pass all-RAM"
 unfoldable pub printingOf : Program → List ℕ → List ℕ → Printing
-printingOf program input room = textPut (isRefused (readingOf input)) (reportText program input) room
+printingOf program input room = textPut (isRefused (readingOf input)) (reportText (busOn allRam) program input) room
 
 -- the printing that the code's answer and the room at its return stand for: the contract says that it is `printingOf`
 abbrev pub printing : Printed → List ℕ → Printing

@@ -2,7 +2,7 @@
 -- Over start".
 use Prim.Native.Nat.{ℕ, _+_, _-_}
 use mathlib.Core.List.{List, [], _∷_, _++_}
-use Rattle.memory.specs.Bus.{busOf}
+use Rattle.memory.specs.Bus.{Bus}
 use Rattle.listing.specs.Text.{codes, hexOf}
 use Rattle.meter.specs.Answer.{Longest, noWait, longest, Lowest, noOver, overAt, Named}
 use Rattle.meter.specs.Meter.{answerFrom, namedOf}
@@ -31,9 +31,9 @@ namedLine first last named =
     ++ (space ∷ (hexOf last ++ (space ∷ (waitText (named .longest-wait) ++ (space ∷ overText (named .lowest-over))))))
 
 -- the line of the region from first to last
-unfoldable pub regionLine : List ℕ → ℕ → ℕ → List ℕ
-regionLine m first last = namedLine first last (namedOf (answerFrom (busOf m) meteringLimit) first last)
+unfoldable pub regionLine : Bus → ℕ → ℕ → List ℕ
+regionLine b first last = namedLine first last (namedOf (answerFrom b meteringLimit) first last)
 
 -- a record of so many words, of which there is one or more
-abbrev pub regionLines : List ℕ → ℕ → ℕ → List (List ℕ)
-regionLines m address count = regionLine m address (address + (count - 1)) ∷ []
+abbrev pub regionLines : Bus → ℕ → ℕ → List (List ℕ)
+regionLines b address count = regionLine b address (address + (count - 1)) ∷ []

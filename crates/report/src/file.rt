@@ -2,6 +2,8 @@
 ghost use mathlib.Core.Path.{_≡_};
 ghost use Prim.Native.Nat.{_+_, _*_, _<_, _≤_};
 ghost use lib.ListN.{length};
+ghost use Rattle.memory.specs.Map.{allRam};
+ghost use Rattle.memory.specs.Bus.{busOn};
 ghost use Rattle.image.specs.Format.{recordBytes};
 ghost use Rattle.report.specs.Reading.{boardWords, inputLimit, recordsOf};
 ghost use Rattle.report.specs.Program.{recordLines, recordsLines, loadedText};
@@ -24,7 +26,7 @@ fn put_record(
     page: Page,
 ) -> Page
     requires { ⌜ (length (now memory) ≡ boardWords) × (0 < count) × (address + count ≤ boardWords) × (page .at + recordBytes count * 10 ≤ length (now room)) × (page .lines ≤ inputLimit) ⌝ }
-    ensures { λ r. ⌜ Adds (now (room .entry)) page (recordLines program (now (memory .entry)) address count) (now (room .exit)) r ⌝ }
+    ensures { λ r. ⌜ Adds (now (room .entry)) page (recordLines program (busOn allRam (now (memory .entry))) address count) (now (room .exit)) r ⌝ }
 {
     match program {
         Program::ListImage => instructions::put_lines(memory, address, count, room, page),
@@ -35,7 +37,7 @@ fn put_record(
 // The lines of every record, in the file's order. The room is filled up to `at`.
 fn put_records(program: Program, file: &[u8], memory: &[u16], room: &mut [u8], at: usize) -> Page
     requires { ⌜ Ready (now file) (now memory) × (at + linesRoom ≤ length (now room)) ⌝ }
-    ensures { λ r. ⌜ Fills (now (room .entry)) at (recordsLines program (now (memory .entry)) (recordsOf (now (file .entry)))) (now (room .exit)) r ⌝ }
+    ensures { λ r. ⌜ Fills (now (room .entry)) at (recordsLines program (busOn allRam (now (memory .entry))) (recordsOf (now (file .entry)))) (now (room .exit)) r ⌝ }
 {
     let mut page = Page { at: at, lines: 0 };
     let mut from = format::HEAD_BYTES;
@@ -56,7 +58,7 @@ fn put_records(program: Program, file: &[u8], memory: &[u16], room: &mut [u8], a
 // The whole text.
 pub(crate) fn put_report(program: Program, file: &[u8], memory: &[u16], room: &mut [u8]) -> usize
     requires { ⌜ Ready (now file) (now memory) × (textRoom ≤ length (now room)) ⌝ }
-    ensures { λ r. ⌜ Puts (now (room .entry)) 0 (loadedText program (now (memory .entry)) (recordsOf (now (file .entry)))) (now (room .exit)) r ⌝ }
+    ensures { λ r. ⌜ Puts (now (room .entry)) 0 (loadedText program (busOn allRam (now (memory .entry))) (recordsOf (now (file .entry)))) (now (room .exit)) r ⌝ }
 {
     let start = page::put_numbered(room, 0, b"BOARD ", crate::BOARD);
     let page = put_records(program, file, memory, room, start);

@@ -1,12 +1,14 @@
 // The listing's lines: one for each instruction that starts in a record.
 ghost use Prim.Native.Nat.{_+_, _*_, _≤_};
 ghost use lib.ListN.{length};
-ghost use Rattle.memory.specs.Bus.{busOf, readOf};
+ghost use Rattle.memory.specs.Map.{allRam};
+ghost use Rattle.memory.specs.Bus.{busOn, readOf};
 ghost use Rattle.report.specs.Instructions.{instructionLines};
 ghost use Rattle.report.specs.inner.Page.{Adds, Steps};
 use crate::page;
 use crate::page::Page;
 use listing::Listing;
+use memory::map;
 
 // Behind an instruction's line: the place in the room, the instruction's words, and D for the next one.
 pub(crate) struct NextLine {
@@ -18,10 +20,10 @@ pub(crate) struct NextLine {
 // Address, space, text.
 fn put_line(memory: &[u16], address: u16, double: bool, room: &mut [u8], at: usize) -> NextLine
     requires { ⌜ (length (now memory) ≤ 65536) × (at + 20 ≤ length (now room)) ⌝ }
-    ensures { λ r. ⌜ Steps (readOf (busOf (now (memory .entry)))) address double (now (room .entry)) at (now (room .exit)) r ⌝ }
+    ensures { λ r. ⌜ Steps (readOf (busOn allRam (now (memory .entry)))) address double (now (room .entry)) at (now (room .exit)) r ⌝ }
 {
     let mut text = [0u8; listing::TEXT_ROOM];
-    let listed = listing::disassemble(memory, address, double, &mut text);
+    let listed = listing::disassemble(map::all_ram(), memory, address, double, &mut text);
     match listed {
         Listing::Listed {
             length,
@@ -54,7 +56,7 @@ pub(crate) fn put_lines(
     page: Page,
 ) -> Page
     requires { ⌜ (length (now memory) ≤ 65536) × (address + count ≤ 65536) × (page .at + count * 20 ≤ length (now room)) × (page .lines ≤ 65536) ⌝ }
-    ensures { λ r. ⌜ Adds (now (room .entry)) page (instructionLines (now (memory .entry)) address count) (now (room .exit)) r ⌝ }
+    ensures { λ r. ⌜ Adds (now (room .entry)) page (instructionLines (busOn allRam (now (memory .entry))) address count) (now (room .exit)) r ⌝ }
 {
     let end = address as usize + count as usize;
     let mut next = address as usize;

@@ -1,12 +1,15 @@
 // The metering's lines: one for each record, as a region.
 ghost use Prim.Native.Nat.{_+_, _<_, _≤_};
 ghost use lib.ListN.{length};
+ghost use Rattle.memory.specs.Map.{allRam};
+ghost use Rattle.memory.specs.Bus.{busOn};
 ghost use Rattle.meter.specs.Answer.{longestOf, lowestOf};
 ghost use Rattle.report.specs.Text.{lineText};
 ghost use Rattle.report.specs.Regions.{waitText, overText, namedBy, namedLine, regionLines};
 ghost use Rattle.report.specs.inner.Page.{Puts, Adds};
 use crate::page;
 use crate::page::Page;
+use memory::map;
 use meter::LongestWait;
 use meter::LowestOver;
 use meter::RegionAnswer;
@@ -71,10 +74,10 @@ pub(crate) fn put_line(
     page: Page,
 ) -> Page
     requires { ⌜ (length (now memory) ≤ 65536) × (0 < count) × (address + count ≤ 65536) × (page .at + 38 ≤ length (now room)) × (page .lines ≤ 65536) ⌝ }
-    ensures { λ r. ⌜ Adds (now (room .entry)) page (regionLines (now (memory .entry)) address count) (now (room .exit)) r ⌝ }
+    ensures { λ r. ⌜ Adds (now (room .entry)) page (regionLines (busOn allRam (now (memory .entry))) address count) (now (room .exit)) r ⌝ }
 {
     let last = address + (count - 1);
-    let answer = meter::region(memory, address, last, LIMIT);
+    let answer = meter::region(map::all_ram(), memory, address, last, LIMIT);
     match answer {
         RegionAnswer::Found { longest, lowest } => Page {
             at: put_named(room, page.at, address, last, longest, lowest),

@@ -2,7 +2,7 @@
 use mathlib.Core.Path.{ap}
 use borrow.Author.Needs.{needs}
 use borrow.Author.Tests.{lt-ltb, le-ltb}
-use Rattle.memory.specs.Bus.{busOf, readOf}
+use Rattle.memory.specs.Bus.{busOn, readOf}
 use Rattle.listing.specs.Disassemble.{disassembleOf, listedDisassembly}
 use Rattle.listing.proofs.Entries.{entry-in}
 use Rattle.listing.proofs.Spelling.{rows-spell-lines}
@@ -36,7 +36,7 @@ returns-3 c =
       c .before .before .before .before .before .before .before .before .before .before .enum-told .given .1,
       le-ltb _ _ (c .before .before .before .before .before .before .before .before .before .if1 .left),
     )
-    (ap (listedDisassembly (a .text .now)) (rows-spell-lines (readOf (busOf (a .mem .now))) (a .at) (a .double)))
+    (ap (listedDisassembly (a .text .now)) (rows-spell-lines (readOf (busOn (a .board) (a .mem .now))) (a .at) (a .double)))
 
 pub disassemble-spec : {M : Type 1} → statement M
 disassemble-spec =

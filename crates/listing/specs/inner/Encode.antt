@@ -2,14 +2,14 @@
 -- gives the words.
 use Prim.Native.Nat.{ℕ, _+_, _-_, _*_, _/_, _%_}
 use Prim.Native.Char.{code}
-use mathlib.Core.Bool.{Bool, false, cond}
+use mathlib.Core.Bool.{Bool, cond}
 use mathlib.Core.List.{List, [], _∷_}
 use lib.Dec.{eqb, leb, ltb}
 use lib.ListN.{getD}
 use Rattle.memory.specs.Bus.{busOf, readOf}
 use Rattle.decode.specs.declared.Decoded.{Decoded}
 use Rattle.decode.specs.declared.Decoded.the-variants.{Unspecified, Known}
-use Rattle.decode.specs.Decode.{decodeAt}
+use Rattle.decode.specs.Decode.{decodeWords}
 use Rattle.decode.specs.Rows.{rowOf}
 use Rattle.listing.specs.declared.line.Line.{Line}
 use Rattle.listing.specs.inner.Rows.{firstLetter, templateOf, baseOf}
@@ -41,13 +41,13 @@ readIn (h ∷ t) (c ∷ text) l = readIn t text (withSymbol l h c)
 unfoldable pub lineRead : ℕ → List ℕ → Line
 lineRead r text = readIn (templateOf r) text (lineWith r 0 0 0)
 
--- how many words an opcode's instruction has
+-- how many words an opcode's instruction has; with a 0 after it a jump has its three
 abbrev pub countOf : Decoded → Bool → ℕ
 countOf Unspecified double = 1
 countOf (Known i) double = rowOf i double .words
 
 unfoldable pub wordCount : ℕ → Bool → ℕ
-wordCount w double = countOf (decodeAt (readOf (busOf (w ∷ []))) 0 false) double
+wordCount w double = countOf (decodeWords w 0) double
 
 -- a jump's second word without the address: rows 79 on have no return register, rows 82 on R4 to R6; row 85 is DECLE, which
 -- stands for any second word that ends in bits 3

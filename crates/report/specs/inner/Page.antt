@@ -6,6 +6,8 @@ use mathlib.Core.List.{List}
 use lib.ListN.{length}
 use lib.Seq.{sets}
 use Rattle.refusal.specs.Report.{Report, isRefused}
+use Rattle.memory.specs.Map.{allRam}
+use Rattle.memory.specs.Bus.{busOn}
 use Rattle.report.specs.declared.Program.{Program}
 use Rattle.report.specs.declared.Printed.{Printed}
 use Rattle.report.specs.declared.page.Page.{Page}
@@ -34,7 +36,7 @@ pub record Puts (before : List ℕ) (at : ℕ) (bytes : List ℕ) (after : List 
 
 -- so is the text of what comes of reading, at the front
 pub record Prints (before : List ℕ) (program : Program) (reading : Report ReadImage) (after : List ℕ) (printed : Printed) : Type 0 where
-  pub puts : Puts before 0 (readingText program reading) after (printed .size)
+  pub puts : Puts before 0 (readingText (busOn allRam) program reading) after (printed .size)
   pub refused : printed .refused ≡ isRefused reading
 
 -- so are lines, which are counted

@@ -3,18 +3,20 @@ use Prim.Native.Nat.{_-_}
 use native.Mathlib.Omega.{arith}
 use borrow.Author.Needs.{needs}
 use lib.ListN.{length}
+use Rattle.memory.specs.Map.{allRam}
+use Rattle.memory.specs.Bus.{busOn}
 use Rattle.report.proofs.WalkLaws.{Walked, walked-none, walked-record, walked-within, walked-on, walked-end, walked-length}
 use Rattle.report.proofs.file.put_records.Statement.{statement}
 use Rattle.report.proofs.file.put_records.Tie as tie
 
 abbrev Inv-loop : tie.InvT-loop
-Inv-loop program file memory room₀ at page₀ from₀ room page from = Walked program file memory room₀ at room page from
+Inv-loop program file memory room₀ at page₀ from₀ room page from = Walked program (busOn allRam memory) file room₀ at room page from
 
 abbrev μ-loop : tie.MeasureT-loop
 μ-loop program file memory room₀ at page₀ from₀ room page from = length file - from
 
 loop-holds : tie.Need-loop-holds Inv-loop μ-loop
-loop-holds c = walked-none _ _ _ _ _ (omega (arith, c .before .before .before .pre .1)) (c .before .before .before .pre .0)
+loop-holds c = walked-none _ _ _ _ _ _ (omega (arith, c .before .before .before .pre .1)) (c .before .before .before .pre .0)
 
 put-record-requires : tie.Need-put-record-requires Inv-loop μ-loop
 put-record-requires c κs =

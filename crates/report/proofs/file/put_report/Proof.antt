@@ -2,6 +2,8 @@
 use mathlib.Core.Path.{_≡_, _∙_}
 use native.Mathlib.Omega.{arith}
 use borrow.Author.Needs.{needs}
+use Rattle.memory.specs.Map.{allRam}
+use Rattle.memory.specs.Bus.{Bus, busOn}
 use Rattle.report.specs.Reading.{recordsOf}
 use Rattle.report.specs.Program.{recordsLines, boardLine, endLine, endNumber, loadedText}
 use Rattle.report.proofs.LineLaws.{end-number}
@@ -20,9 +22,10 @@ unfolding loadedText boardLine endLine
 returns c =
     let a = c .before .before .before .before .before .before .before .before .before .before .before .before .before .before .before .before .before .before .args in
     let rs = recordsOf (a .file .now) in
+    let seen : Bus = busOn allRam (a .memory .now) in
     let f = c .before .before .before .before .before .before .before .before .put-records .ensures .adds in
-    let n : endNumber (a .program) (recordsLines (a .program) (a .memory .now) rs) rs ≡ c .before .before .before .before .before .before .before .before .put-records .result .lines =
-    end-number (a .program) (a .memory .now) rs ∙ omega (arith, f .count)
+    let n : endNumber (a .program) (recordsLines (a .program) seen rs) rs ≡ c .before .before .before .before .before .before .before .before .put-records .result .lines =
+    end-number (a .program) seen rs ∙ omega (arith, f .count)
     in
     rw n (puts-then (c .before .before .before .before .before .before .before .before .before .before .before .before .put-numbered .ensures .0) (puts-then (f .puts) (c .before .before .put-numbered2 .ensures .0)))
 

@@ -2,7 +2,8 @@
 use Prim.Native.Nat.{_+_, _-_}
 use native.Mathlib.Omega.{arith}
 use borrow.Author.Needs.{needs}
-use Rattle.memory.specs.Bus.{busOf, readOf}
+use Rattle.memory.specs.Map.{allRam}
+use Rattle.memory.specs.Bus.{busOn, readOf}
 use Rattle.report.proofs.LineLaws.{words-some}
 use Rattle.report.proofs.WalkLaws.{Listed, listed-none, listed-length, listed-on, listed-end}
 use Rattle.report.proofs.instructions.put_lines.Statement.{statement}
@@ -10,7 +11,7 @@ use Rattle.report.proofs.instructions.put_lines.Tie as tie
 
 abbrev Inv-loop : tie.InvT-loop
 Inv-loop memory address count room₀ end next₀ double₀ at₀ lines₀ room next double at lines =
-    Listed memory address count room₀ (record { at = at₀; lines = lines₀ }) room next double at lines
+    Listed (busOn allRam memory) address count room₀ (record { at = at₀; lines = lines₀ }) room next double at lines
 
 abbrev μ-loop : tie.MeasureT-loop
 μ-loop memory address count room₀ end next₀ double₀ at₀ lines₀ room next double at lines = address + count - next
@@ -26,7 +27,7 @@ add-lines c = omega (arith, c .before .before .before .before .before .before .l
 
 loop-less : tie.Need-loop-less Inv-loop μ-loop
 loop-less c =
-    omega (arith, c .before .before .before .put-line .ensures .words, words-some (readOf (busOf (c .before .before .before .before .before .before .before .before .before .args .memory .now))) (c .before .before .before .before .before .before .loop .next) (c .before .before .before .before .before .before .loop .double))
+    omega (arith, c .before .before .before .put-line .ensures .words, words-some (readOf (busOn allRam (c .before .before .before .before .before .before .before .before .before .args .memory .now))) (c .before .before .before .before .before .before .loop .next) (c .before .before .before .before .before .before .loop .double))
 
 loop-again : tie.Need-loop-again Inv-loop μ-loop
 loop-again c = listed-on (c .before .before .before .before .before .before .loop .inv) (c .before .before .before .before .before .loop-test .taken) (c .before .before .before .put-line .ensures)
