@@ -4,10 +4,12 @@ use mathlib.Core.Path.{_≡_, refl}
 use mathlib.Core.List.{List, [], _∷_, _++_, map}
 use native.Mathlib.Omega.{arith}
 use native.Mathlib.Nat.{le-of-suc-le-suc}
+use lib.Dec.{lit<}
 use lib.ListN.{getD}
 use borrow.Author.Needs.{needs}
 use Rattle.word.specs.Word.{wrapAdd}
 use Rattle.memory.specs.Memory.{peekOf, pokeOf}
+use Rattle.memory.specs.Map.{holds, partAt, badMap}
 use Rattle.memory.specs.Bus.{Bus, readOf, storeOf, admissionOf}
 use Rattle.memory.specs.Laws.{AgreeAt}
 use Rattle.decode.specs.Decode.{controlInstruction, statusInstruction, lowInstruction, instructionOf, isUnspecified, decodeAt}
@@ -64,14 +66,26 @@ unstored reads (y ∷ t) h (z ∷ earlier) x rest (suc i) e k =
     let s : t ≡ earlier ++ (x ∷ rest) = cc in
     rw (← later-at reads i) (unstored (later reads) t (cc) earlier x rest i s (le-of-suc-le-suc k))
 
+-- the first step leaves what the walk reads at its second instruction
+first-leaves : (reads : List (List ℕ)) (x : StepMade) (t : List StepMade) → Unstored reads (x ∷ t) → AgreeAt (getD reads 1 []) (x .bus) (x .left .bus)
+unfolding Unstored
+first-leaves reads x t h = h [] x t 1 refl (lit< tt)
+
+-- NOP's word, as it was loaded and as the store leaves it
+changed-word : {rest : Type 0} → _≡_ {A = ℕ} 0x1034 0x34 × rest → ⊥
+changed-word e = omega (arith, e .0)
+
 pub not-empty : NotEmpty
-unfolding wrapAdd peekOf pokeOf readOf storeOf admissionOf controlInstruction statusInstruction lowInstruction instructionOf isUnspecified decodeAt interruptibleEntry plainEntry controlEntry registerEntry branchCycles branchEntry memoryWords storeEntry decodingReads seenBy conditionHolds isTaken branch begun noted planOf granted executionWords executedFrom executed admittedAction actionOf stepOf stepsFrom cyclesOfAll limitOf startAt placeAfter rowTurn turnAt walkBy walkOn walkFrom longerThan lowerThan longestBy lowestBy waitOf namedOf regionOf readsBy readsOn readsFrom grants beforeGrant
+unfolding holds partAt wrapAdd peekOf pokeOf readOf storeOf badMap admissionOf controlInstruction statusInstruction lowInstruction instructionOf isUnspecified decodeAt interruptibleEntry plainEntry controlEntry registerEntry branchCycles branchEntry memoryWords storeEntry decodingReads seenBy conditionHolds isTaken branch begun noted planOf granted executionWords executedFrom executed admittedAction actionOf stepOf stepsFrom cyclesOfAll limitOf startAt placeAfter rowTurn turnAt walkBy walkOn walkFrom longerThan lowerThan longestBy lowestBy waitOf namedOf regionOf readsBy readsOn readsFrom grants beforeGrant
 not-empty =
     record {
       opcode = record { premises = record { stands = search needs; low = search needs; unstored = unstored _ _ refl }; answers = refl; granted = refl; after = refl };
       opcode-changed = refl;
       displacement = record { premises = record { stands = search needs; low = search needs; unstored = unstored _ _ refl }; answers = refl; granted = refl; after = refl };
       displacement-changed = refl;
+      rom = record { premises = record { stands = search needs; low = search needs; unstored = unstored _ _ refl }; answers = refl; granted = refl; after = refl };
+      low-byte = record { premises = record { stands = search needs; low = search needs; unstored = unstored _ _ refl }; answers = refl; granted = refl; after = refl };
+      loaded-high-byte = λ p. changed-word (first-leaves _ _ _ (p .unstored));
       untaken = record { premises = record { stands = search needs; low = search needs; unstored = unstored _ _ refl }; answers = refl; granted = refl; after = refl };
       exceeded = record { premises = record { stands = search needs; low = search needs; unstored = unstored _ _ refl }; answers = refl; granted = refl; after = refl };
       region = refl;

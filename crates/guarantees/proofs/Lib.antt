@@ -4,3 +4,4 @@ pub mod GrantLaws
 pub mod StepLaws
 pub mod FollowLaws
 pub mod Demand
+pub mod AllRam

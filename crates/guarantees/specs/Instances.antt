@@ -3,8 +3,12 @@ use Prim.Native.Nat.{ℕ}
 use mathlib.Core.Path.{_≡_}
 use mathlib.Core.Bool.{Bool, true, false}
 use mathlib.Core.List.{List, [], _∷_}
+use lib.ListN.{replicate}
 use Rattle.refusal.specs.Report.{answered}
-use Rattle.memory.specs.Bus.{Bus, busOf, readOf}
+use Rattle.memory.specs.declared.map.Kind.{Kind}
+use Rattle.memory.specs.declared.map.Kind.the-variants.{Rom, Ram8}
+use Rattle.memory.specs.declared.map.Board.{Board}
+use Rattle.memory.specs.Bus.{Bus, busOf, busOn, readOf}
 use Rattle.cpu.specs.declared.Lines.{Lines}
 use Rattle.cpu.specs.Machine.{Machine, register}
 use Rattle.cpu.specs.Step.{stepOf}
@@ -46,6 +50,20 @@ pub record Shows (m : Machine) (b : Bus) (ls : List Lines) (limit : ℕ) (answer
 abbrev pub storing : Bus
 storing = busOf (0x248 ∷ 0x034 ∷ [])
 
+-- a board of one kind over all addresses
+abbrev pub boardOf : Kind → Board
+boardOf k = record { ranges = replicate 16 (record { first = 0; last = 0xFFFF; kind = k }); count = 1 }
+
+-- the same words as cartridge ROM and as 8-bit RAM; and with a high byte loaded into NOP's word, which the opcode does not count
+abbrev pub storing-rom : Bus
+storing-rom = busOn (boardOf Rom) (0x248 ∷ 0x034 ∷ [])
+
+abbrev pub storing-ram8 : Bus
+storing-ram8 = busOn (boardOf Ram8) (0x248 ∷ 0x034 ∷ [])
+
+abbrev pub storing-loaded : Bus
+storing-loaded = busOn (boardOf Ram8) (0x248 ∷ 0x1034 ∷ [])
+
 -- CLRC and BC
 abbrev pub branching : Bus
 branching = busOf (0x006 ∷ 0x201 ∷ 0 ∷ [])
@@ -62,6 +80,12 @@ pub record NotEmpty : Type 0 where
   -- after 2 less; so it does with I set and INTRM low
   pub displacement : Shows (machine 5 2 true) displacing (thrice disturbed) 0 (wait 18) 16
   pub displacement-changed : readOf (stepOf (machine 5 2 true) displacing disturbed .bus) 2 ≡ 5
+  -- R1 is 1: the store goes to NOP's word, which the walk reads later. In ROM it does nothing, and in 8-bit RAM it keeps the low byte, which stands there
+  -- already with a high byte of 0
+  pub rom : Shows (machine 5 1 false) storing-rom (thrice request) 0 (wait 15) 15
+  pub low-byte : Shows (machine 0xFF34 1 false) storing-ram8 (thrice request) 0 (wait 15) 15
+  -- the same low byte onto a word with a loaded high byte changes that word: the premise does not hold
+  pub loaded-high-byte : Premises (machine 0x34 1 false) storing-loaded (thrice request) 0 → ⊥
   -- BC is not taken: 4 and 9, and the grant comes after 2 less
   pub untaken : Shows (machine 0 0 false) branching (thrice request) 0 (wait 13) 11
   -- the same at limit 12: the wait is over it, and the grant comes after 12 less 1

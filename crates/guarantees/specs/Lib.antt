@@ -1,7 +1,8 @@
 -- Demand 3, the processor and the wait meter together. Read Grants and Unstored, the demand's words, then Demand. Instances shows that its
--- premises are met, and Laws that its words mean what they should.
+-- premises are met, and Laws that its words mean what they should. AllRam says that document 01's board is still there.
 pub mod Grants
 pub mod Unstored
 pub mod Demand
 pub mod Instances
 pub mod Laws
+pub mod AllRam
