@@ -9,7 +9,7 @@
 #include <stdint.h>
 
 /* The number of this interface, raised by each request that changes or adds a call. */
-#define CP1610_INTERFACE 1
+#define CP1610_INTERFACE 2
 
 #ifdef __cplusplus
 extern "C" {
@@ -32,6 +32,21 @@ enum cp1610_state {
     CP1610_STATE_WORDS = 18
 };
 
+/* A board's map says which words are there and which can be stored to. It has CP1610_RANGE_WORDS words for each range: its first
+ * address, its last, which belongs to it, and its kind. The first range that has an address decides. A word of ROM keeps what it holds,
+ * one of 16-bit RAM takes the word stored, one of 8-bit RAM takes its low byte (and gets the high byte 0); all three are read as they
+ * stand in memory. An address that no range has is empty: it reads as $FFFF, and a store there does nothing. What lies past the memory
+ * does so too, in any range. A map of length 0 has no range, so that every word is empty.
+ *
+ * `map_length` counts words. One that is no multiple of 3, or a kind above 2 in one of the first 16 ranges, is no map at all and is
+ * refused by 255, with the short buffers and before all else. More than 16 ranges, or one whose first address is above its last, are
+ * refused by 14, directly after 1. */
+enum cp1610_range_kind { CP1610_ROM = 0, CP1610_RAM16 = 1, CP1610_RAM8 = 2 };
+enum cp1610_map { CP1610_RANGE_WORDS = 3, CP1610_MOST_RANGES = 16, CP1610_ALL_RAM_WORDS = 3 };
+
+/* The map of one range, 16-bit RAM at every address: the memory as it is lent. */
+static const uint16_t CP1610_ALL_RAM[CP1610_ALL_RAM_WORDS] = {0x0000, 0xFFFF, CP1610_RAM16};
+
 /* The lines of a step or a run. External branch input n is bit 16 + n. */
 enum cp1610_lines { CP1610_INTRM_HIGH = 1, CP1610_BUSRQ_HIGH = 2 };
 
@@ -39,8 +54,8 @@ enum cp1610_lines { CP1610_INTRM_HIGH = 1, CP1610_BUSRQ_HIGH = 2 };
 enum cp1610_kind { CP1610_DONE = 1, CP1610_GRANTED = 3, CP1610_INTERRUPTED = 4, CP1610_EXECUTED = 5 };
 enum cp1610_wait_kind { CP1610_WAITS = 1, CP1610_OVER = 2, CP1610_MEETS_HALT = 3, CP1610_MEETS_UNSPECIFIED = 4 };
 
-/* The refusals: document 01's numbers 1 to 13, and 255, which is this interface's own and none of document 01's: a `state`, `out` or
- * `words` that is shorter than the call needs, tested before all else. A refused call alters nothing. */
+/* The refusals: document 01's numbers, and 255, which is this interface's own and none of document 01's: a `state`, `out` or `words`
+ * that is shorter than the call needs, or a `map` that is none, tested before all else. A refused call alters nothing. */
 enum cp1610_refusal {
     CP1610_MEMORY_TOO_LONG = 1,
     CP1610_IS_HALTED = 2,
@@ -55,7 +70,9 @@ enum cp1610_refusal {
     CP1610_PAST_MEMORY = 11,
     CP1610_SUM_DIFFERS = 12,
     CP1610_IMAGE_ROOM_TOO_SMALL = 13,
-    CP1610_SHORT_BUFFER = 255
+    CP1610_BAD_MAP = 14,
+    CP1610_SHORT_BUFFER = 255,
+    CP1610_NO_MAP = CP1610_SHORT_BUFFER
 };
 
 /* What a run reports, and the causes that end one. */
@@ -85,38 +102,43 @@ static inline uint32_t cp1610_value_of(uint64_t answer) { return (uint32_t)answe
 uint64_t cp1610_reset(uint16_t *state, size_t state_length);
 
 /* One step. Kind 3 the bus was granted, 4 an interrupt was entered, 5 an instruction was executed; the value is the cycles.
- * Refused by 1 for a memory above 65,536 words, by 2 for a halted machine, by 3 for an unspecified form. */
-uint64_t cp1610_step(uint16_t *state, size_t state_length, uint16_t *mem, size_t mem_length, uint32_t lines);
+ * Refused by 1 for a memory above 65,536 words, else by 14 for a bad map, else by 2 for a halted machine, else by 3 for an
+ * unspecified form. */
+uint64_t cp1610_step(uint16_t *state, size_t state_length, uint16_t *mem, size_t mem_length, const uint16_t *map, size_t map_length,
+    uint32_t lines);
 
 /* Steps with fixed lines, while their cycles are below the budget, the machine is not halted and the next step is not refused by
  * 3. Kind 1; `out` gets the steps, the cycles and the cause of the end: halted, else unspecified, else the budget.
- * Refused by 1 for a memory above 65,536 words, else by 4 for a budget above 1,000,000, else by 2 for a halted machine. */
-uint64_t cp1610_run(uint16_t *state, size_t state_length, uint16_t *mem, size_t mem_length, uint32_t lines, uint32_t budget,
-    uint32_t *out, size_t out_length);
+ * Refused by 1 for a memory above 65,536 words, else by 14 for a bad map, else by 4 for a budget above 1,000,000, else by 2 for a
+ * halted machine. */
+uint64_t cp1610_run(uint16_t *state, size_t state_length, uint16_t *mem, size_t mem_length, const uint16_t *map, size_t map_length,
+    uint32_t lines, uint32_t budget, uint32_t *out, size_t out_length);
 
 /* The wait meter for an address. Kind 1 a request is heard after so many cycles, which is the value; 2 they are more than the limit;
  * 3 the walk meets HLT; 4 it meets an unspecified form, whose address is the value.
- * Refused by 1 for a memory above 65,536 words, else by 8 for a limit above 4,096. */
-uint64_t cp1610_wait(const uint16_t *mem, size_t mem_length, uint16_t address, uint16_t limit);
+ * Refused by 1 for a memory above 65,536 words, else by 14 for a bad map, else by 8 for a limit above 4,096. */
+uint64_t cp1610_wait(const uint16_t *mem, size_t mem_length, const uint16_t *map, size_t map_length, uint16_t address, uint16_t limit);
 
 /* The wait meter for every address from first to last. Kind 1; `out` gets whether any has a wait, the longest and the lowest start
  * that has it, whether any is over the limit, and the lowest such start.
- * Refused by 1 for a memory above 65,536 words, else by 7 for a first above last, else by 8 for a limit above 4,096. */
-uint64_t cp1610_region(const uint16_t *mem, size_t mem_length, uint16_t first, uint16_t last, uint16_t limit, uint32_t *out,
-    size_t out_length);
+ * Refused by 1 for a memory above 65,536 words, else by 14 for a bad map, else by 7 for a first above last, else by 8 for a limit
+ * above 4,096. */
+uint64_t cp1610_region(const uint16_t *mem, size_t mem_length, const uint16_t *map, size_t map_length, uint16_t first, uint16_t last,
+    uint16_t limit, uint32_t *out, size_t out_length);
 
 /* The line of the instruction at an address, with D as it stands there (anything but 0 is set). Kind 1; `out` gets the text's length,
  * at most 14, the words used and the next D. The text has no end mark, and the room past it stays.
- * Refused by 1 for a memory above 65,536 words, else by 5 for a text room under 16 bytes. */
-uint64_t cp1610_list(const uint16_t *mem, size_t mem_length, uint16_t address, uint8_t d, uint8_t *text, size_t text_length,
-    uint32_t *out, size_t out_length);
+ * Refused by 1 for a memory above 65,536 words, else by 14 for a bad map, else by 5 for a text room under 16 bytes. */
+uint64_t cp1610_list(const uint16_t *mem, size_t mem_length, const uint16_t *map, size_t map_length, uint16_t address, uint8_t d,
+    uint8_t *text, size_t text_length, uint32_t *out, size_t out_length);
 
 /* The words of a line, with D as it stands before it (anything but 0 is set). Kind 1; the value is the count of words, and those past
  * it stay.
  * Refused by 6 for a line that is not one of the lister's. */
 uint64_t cp1610_assemble(const uint8_t *line, size_t line_length, uint8_t d, uint16_t *words, size_t words_length);
 
-/* Loads an image file for a board. The answer is 2^32 + the number of records, which come below 2^32 in a file below 32 GiB.
+/* Loads an image file for the board of this number. No map is asked: words of ROM are loaded too. The answer is 2^32 + the number of
+ * records, which come below 2^32 in a file below 32 GiB.
  * Refused by 1 for a memory above 65,536 words, else by the file's first offence: 9 malformed, 10 another board's, 11 a record past
  * the memory, 12 the sum differs. */
 uint64_t cp1610_load(uint16_t board, uint16_t *mem, size_t mem_length, const uint8_t *file, size_t file_length);

@@ -8,7 +8,8 @@ use borrow.Author.Tests.{le-ltb}
 use lib.ListN.{length}
 use Rattle.refusal.specs.declared.Refusal.{Refusal}
 use Rattle.refusal.specs.Report.{Report, refused, answered}
-use Rattle.memory.specs.Bus.{Bus, busOf}
+use Rattle.memory.specs.declared.map.Board.{Board}
+use Rattle.memory.specs.Bus.{Bus, busOn}
 use Rattle.cpu.specs.declared.Stepped.{Stepped}
 use Rattle.cpu.specs.declared.Lines.{Lines}
 use Rattle.cpu.specs.Machine.{Machine, resetMachine}
@@ -25,6 +26,7 @@ use Rattle.listing.specs.declared.Listing.the-variants.{Refused as ListingRefus
 use Rattle.listing.specs.Answer.{ListedLine, listingReported}
 use Rattle.listing.specs.Disassemble.{disassembleOf, disassembly}
 use Rattle.cp1610.specs.Words.{stateLength, unpacked, packed, linesOf}
+use Rattle.cp1610.specs.MapWords.{isMap}
 use Rattle.cp1610.specs.Answers.{isRefusal, answerWord, successWord}
 use Rattle.cp1610.specs.Called.{items, memory, called, byReport, callBy}
 use Rattle.cp1610.specs.Call.{resetCall, steppedCall, stepCall}
@@ -50,14 +52,15 @@ unfolding resetCall
 reset-ends words m long e = rw (e, le-ltb (length words) stateLength long)
 
 -- a step's cycles fit the low half of a result
-pub step-cycles-low : (x : Stepped) (n : List ℕ) (m : Machine) (b : Bus) (l : Lines) →
-    outcome x n ≡ stepOf m b l →
+pub step-cycles-low : (board : Board) (x : Stepped) (n : List ℕ) (m : Machine) (b : Bus) (l : Lines) →
+    outcome board x n ≡ stepOf m b l →
     cyclesOf (stepReport (x .answer)) < 0x100000000
-step-cycles-low x n m b l e = omega (arith, ap (λ (o : Outcome). cyclesOf (o .answer)) e, cycles-most m b l)
+step-cycles-low board x n m b l e = omega (arith, ap (λ (o : Outcome). cyclesOf (o .answer)) e, cycles-most m b l)
 
 -- a step, by whether its result is a refusal's
-module _ (words : List ℕ) (b : Bus) (lines : ℕ) (o : Outcome) (result : ℕ)
+module _ (words map : List ℕ) (b : Bus) (lines : ℕ) (o : Outcome) (result : ℕ)
     (long : stateLength ≤ length words)
+    (whole : isMap map ≡ true)
     (steps : o ≡ stepOf (unpacked words) b (linesOf lines))
     (word : result ≡ answerWord (o .answer)) where
   told : ToldStep (unpacked words) b o (o .answer)
@@ -65,43 +68,45 @@ module _ (words : List ℕ) (b : Bus) (lines : ℕ) (o : Outcome) (result : ℕ)
   told = rw steps (told-step (unpacked words) b (linesOf lines) refl)
 
   pub step-refused : isRefusal result ≡ true →
-      called result (items words ∷ memory (o .bus) ∷ []) ≡ callBy (stepCall words b lines)
+      called result (items words ∷ memory (o .bus) ∷ []) ≡ callBy (stepCall words map b lines)
   unfolding stepCall
   step-refused low =
       rw (← steps)
-      (by-told _ _ (steppedCall words b o)
+      (by-told _ _ (steppedCall words map b o)
       (λ r c. result ≡ answerWord r → called result (items words ∷ memory (o .bus) ∷ []) ≡ c)
-      (le-ltb (length words) stateLength long) told
+      (rw (le-ltb (length words) stateLength long, whole)) told
       (λ n h k e. rw (e, k .1))
       (λ x k e. no-refusal result (rw e (success-high (x .kind) (x .cycles) (k .0))) low)
       word)
 
   pub step-answered : isRefusal result ≡ false →
-      called result (items (packed words (o .machine)) ∷ memory (o .bus) ∷ []) ≡ callBy (stepCall words b lines)
+      called result (items (packed words (o .machine)) ∷ memory (o .bus) ∷ []) ≡ callBy (stepCall words map b lines)
   unfolding stepCall
   step-answered high =
       rw (← steps)
-      (by-told _ _ (steppedCall words b o)
+      (by-told _ _ (steppedCall words map b o)
       (λ r c. result ≡ answerWord r → called result (items (packed words (o .machine)) ∷ memory (o .bus) ∷ []) ≡ c)
-      (le-ltb (length words) stateLength long) told
+      (rw (le-ltb (length words) stateLength long, whole)) told
       (λ n h k e. no-refusal result high (rw e h))
       (λ x k e. rw e)
       word)
 
 -- a refused run left the memory
-pub run-kept : (words : List ℕ) (b : Bus) (lines budget : ℕ) (x : Ran) (after : List ℕ) (r : Refusal) →
-    runOutcome x after ≡ runOf (unpacked words) b (linesOf lines) budget →
+pub run-kept : (words : List ℕ) (b : Bus) (lines budget : ℕ) (board : Board) (x : Ran) (after : List ℕ) (r : Refusal) →
+    runOutcome board x after ≡ runOf (unpacked words) b (linesOf lines) budget →
     x .answer ≡ RunRefused r →
-    busOf after ≡ b
+    busOn board after ≡ b
 unfolding unpacked
-run-kept words b lines budget x after r e p =
+run-kept words b lines budget board x after r e p =
     let told = told-run (unpacked words) b (linesOf lines) budget refl in
     kept-by _ _ (runReport (x .answer)) (subst (ToldRun (unpacked words) b) (sym e) told) (ap runReport p) .1
 
 -- the meter's word is the whole result
-pub wait-ends : (b : Bus) (address limit : ℕ) → called (waitWord (waitOf b address limit)) [] ≡ callBy (waitCall b address limit)
+pub wait-ends : (map : List ℕ) (b : Bus) (address limit : ℕ) →
+    isMap map ≡ true →
+    called (waitWord (waitOf b address limit)) [] ≡ callBy (waitCall map b address limit)
 unfolding waitCall
-wait-ends b address limit = go (waitOf b address limit)
+wait-ends map b address limit whole = rw whole (go (waitOf b address limit))
   where
     go : (r : Report Answer) → called (waitWord r) [] ≡ byReport [] (λ (a : Answer). called (walkedWord a) []) r
     go (refused n) = refl

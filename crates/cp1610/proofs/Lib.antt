@@ -1,5 +1,6 @@
 -- Laws of the words that calls take and leave, of what the definitions behind them report, and of every call.
 pub mod WordLaws
+pub mod MapLaws
 pub mod AnswerLaws
 pub mod RuleLaws
 pub mod ReportLaws

@@ -1,7 +1,7 @@
 -- What a caller reads from a call is document 01's answer, call by call.
 use Prim.Native.Nat.{ℕ, _≤_}
 use mathlib.Core.Path.{_≡_, refl, sym, subst}
-use mathlib.Core.Bool.{Bool}
+use mathlib.Core.Bool.{Bool, true}
 use mathlib.Core.List.{List, [], _∷_}
 use native.Mathlib.Omega.{arith}
 use borrow.Author.Tests.{le-ltb}
@@ -9,7 +9,9 @@ use lib.Dec.{ltb, lit≤, lit<}
 use lib.ListN.{length, drop}
 use lib.Seq.{take-at}
 use Rattle.word.proofs.Choice.{cond-both}
+use Rattle.memory.specs.Map.{listedIn}
 use Rattle.memory.specs.Bus.{Bus, readOf, admissionOf}
+use Rattle.memory.specs.Laws.{AllRam}
 use Rattle.memory.proofs.BusLaws.{unless-both}
 use Rattle.refusal.specs.Report.{Report, answered}
 use Rattle.cpu.specs.Machine.{Machine, resetMachine}
@@ -18,6 +20,7 @@ use Rattle.run.specs.Run.{RunOutcome, runOf}
 use Rattle.meter.specs.Answer.{Answer, wait, over, halts, unspecified, Longest, noWait, longest, Lowest, noOver, overAt, Named}
 use Rattle.listing.specs.Disassemble.{textAt, Disassembly, listedDisassembly, disassembleOf}
 use Rattle.cp1610.specs.Words.{stateLength, isSet, unpacked, linesOf}
+use Rattle.cp1610.specs.MapWords.{rangeAt, rangesTo, boardOf, kindsTo, isMap, onMap, allRamWords}
 use Rattle.cp1610.specs.Answers.{successWord, runLength, runWords}
 use Rattle.cp1610.specs.Called.{items, Called, called, callBy}
 use Rattle.cp1610.specs.Call.{resetCall, stepCall, runCall}
@@ -74,15 +77,16 @@ read-reset state h =
     (λ m e. rw (success-high 1 0 (lit≤ tt), unpacks-packed state m e))
 
 -- step
-pub read-step : (state : List ℕ) (mem : Bus) (lines : ℕ) →
+pub read-step : (state map : List ℕ) (mem : Bus) (lines : ℕ) →
     stateLength ≤ length state →
-    readStep (callBy (stepCall state mem lines)) ≡ stepOf (unpacked state) mem (linesOf lines)
+    isMap map ≡ true →
+    readStep (callBy (stepCall state map mem lines)) ≡ stepOf (unpacked state) mem (linesOf lines)
 unfolding stepCall unpacked
-read-step state mem lines h =
+read-step state map mem lines h whole =
     let o : Outcome = stepOf (unpacked state) mem (linesOf lines) in
-    by-told _ _ (stepCall state mem lines)
+    by-told _ _ (stepCall state map mem lines)
     (λ r c. readStep c ≡ record { machine = o .machine; answer = r; bus = o .bus })
-    (le-ltb (length state) stateLength h) (told-step (unpacked state) mem (linesOf lines) refl)
+    (rw (le-ltb (length state) stateLength h, whole)) (told-step (unpacked state) mem (linesOf lines) refl)
     (λ n low k. rw (low, k .0, k .1))
     (λ x k.
     rw (
@@ -93,16 +97,17 @@ read-step state mem lines h =
     ))
 
 -- run
-read-run : (state : List ℕ) (mem : Bus) (lines budget : ℕ) (out : List ℕ) →
+read-run : (state map : List ℕ) (mem : Bus) (lines budget : ℕ) (out : List ℕ) →
     stateLength ≤ length state →
     runLength ≤ length out →
-    readRun (callBy (runCall state mem lines budget out)) ≡ runOf (unpacked state) mem (linesOf lines) budget
+    isMap map ≡ true →
+    readRun (callBy (runCall state map mem lines budget out)) ≡ runOf (unpacked state) mem (linesOf lines) budget
 unfolding runCall unpacked runWords
-read-run state mem lines budget out h k =
+read-run state map mem lines budget out h k whole =
     let o : RunOutcome = runOf (unpacked state) mem (linesOf lines) budget in
-    by-told _ _ (runCall state mem lines budget out)
+    by-told _ _ (runCall state map mem lines budget out)
     (λ r c. readRun c ≡ record { machine = o .machine; answer = r; bus = o .bus })
-    (rw (le-ltb (length state) stateLength h, le-ltb (length out) runLength k))
+    (rw (le-ltb (length state) stateLength h, le-ltb (length out) runLength k, whole))
     (told-run (unpacked state) mem (linesOf lines) budget refl)
     (λ n low t. rw (low, t .0, t .1))
     (λ x e. rw (success-high 1 0 (lit≤ tt), unpacks-packed state (o .machine) e))
@@ -124,14 +129,15 @@ read-named out (longest n start) noOver = refl
 read-named out (longest n start) (overAt over-start) = refl
 
 -- list
-read-listing : (mem : Bus) (address d : ℕ) (text out : List ℕ) →
+read-listing : (map : List ℕ) (mem : Bus) (address d : ℕ) (text out : List ℕ) →
     listLength ≤ length out →
-    readListing (callBy (listCall mem address d text out)) ≡ disassembleOf mem address (isSet d) text
+    isMap map ≡ true →
+    readListing (callBy (listCall map mem address d text out)) ≡ disassembleOf mem address (isSet d) text
 unfolding listCall listWords
-read-listing mem address d text out h =
+read-listing map mem address d text out h whole =
     let x : Disassembly = disassembleOf mem address (isSet d) text in
-    by-told _ _ (listCall mem address d text out) (λ r c. readListing c ≡ record { answer = r; room = x .room })
-    (le-ltb (length out) listLength h) (told-listing mem address (isSet d) text)
+    by-told _ _ (listCall map mem address d text out) (λ r c. readListing c ≡ record { answer = r; room = x .room })
+    (rw (le-ltb (length out) listLength h, whole)) (told-listing mem address (isSet d) text)
     (λ n low k. rw (low, k))
     (λ l k. rw (success-high 1 0 (lit≤ tt), set-flag (l .double)))
 
@@ -144,9 +150,9 @@ listed-text b at double room =
     (cond-both (HasText line) (ltb (length room) 16) tt (take-at line (drop (length line) room) (length line) refl))
 
 pub reads-the-text : ReadsTheText
-reads-the-text mem address d text out h =
-    subst (HasText (textAt (readOf mem) address (isSet d))) (sym (read-listing mem address d text out h))
-    (listed-text mem address (isSet d) text)
+reads-the-text mem map address d text out h =
+    subst (HasText (textAt (readOf (onMap map mem)) address (isSet d))) (sym (read-listing map (onMap map mem) address d text out (h .0) (h .1)))
+    (listed-text (onMap map mem) address (isSet d) text)
 
 -- load and write: a count, and what is left of the one buffer
 read-counted : {O : Type 0} (outcome : Report ℕ → List ℕ → O) (before after : List ℕ) (most : ℕ) (report : Report ℕ) →
@@ -163,18 +169,18 @@ read-counted outcome before after most report told =
 pub reads-the-answer : ReadsTheAnswer
 unfolding waitCall regionCall assembleCall loadCall writeCall
 reads-the-answer (cp1610-reset state) h = read-reset state h
-reads-the-answer (cp1610-step state mem lines) h = read-step state mem lines h
-reads-the-answer (cp1610-run state mem lines budget out) h = read-run state mem lines budget out (h .0) (h .1)
-reads-the-answer (cp1610-wait mem address limit) h =
-    by-told Unit Fits (waitCall mem address limit) (λ r c. readReport readWalk c ≡ r) refl (told-wait mem address limit h)
+reads-the-answer (cp1610-step state mem map lines) h = read-step state map (onMap map mem) lines (h .0) (h .1)
+reads-the-answer (cp1610-run state mem map lines budget out) h = read-run state map (onMap map mem) lines budget out (h .0) (h .1) (h .2)
+reads-the-answer (cp1610-wait mem map address limit) h =
+    by-told Unit Fits (waitCall map (onMap map mem) address limit) (λ r c. readReport readWalk c ≡ r) (rw (h .0)) (told-wait (onMap map mem) address limit (h .1))
     (λ n low k. rw low)
     read-walked
-reads-the-answer (cp1610-region mem first last limit out) h =
-    by-told Unit (λ (x : Named). Unit) (regionCall mem first last limit out) (λ r c. readReport readNamed c ≡ r)
-    (le-ltb (length out) regionLength h) (told-region mem first last limit)
+reads-the-answer (cp1610-region mem map first last limit out) h =
+    by-told Unit (λ (x : Named). Unit) (regionCall map (onMap map mem) first last limit out) (λ r c. readReport readNamed c ≡ r)
+    (rw (le-ltb (length out) regionLength (h .0), h .1)) (told-region (onMap map mem) first last limit)
     (λ n low k. rw low)
     (λ x k. rw (success-high 1 0 (lit≤ tt), read-named out (x .longest-wait) (x .lowest-over)))
-reads-the-answer (cp1610-list mem address d text out) h = read-listing mem address d text out h
+reads-the-answer (cp1610-list mem map address d text out) h = read-listing map (onMap map mem) address d text out (h .0) (h .1)
 reads-the-answer (cp1610-assemble line d words) h =
     by-told Unit (λ (ws : List ℕ). length ws ≤ lineWords) (assembleCall line d words) (λ r c. readReport readAssembled c ≡ r)
     (le-ltb (length words) lineWords h) (told-assembly line (isSet d))
@@ -190,14 +196,29 @@ reads-the-answer (cp1610-load board mem file) h =
 reads-the-answer (cp1610-write board mem first last room) h =
     read-counted (λ r left. record { answer = r; room = left }) _ _ _ _ (told-writing board mem first last room refl)
 
+-- the words of two maps
+no-ranges : isMap [] ≡ true
+unfolding isMap kindsTo listedIn
+no-ranges = refl
+
+one-range : isMap allRamWords ≡ true
+unfolding isMap kindsTo listedIn
+one-range = refl
+
+all-ram-board : AllRam (boardOf allRamWords)
+unfolding boardOf rangesTo rangeAt listedIn
+all-ram-board = record { one = refl; whole = refl }
+
 pub shortest-are-well-lent : ShortestAreWellLent
 shortest-are-well-lent =
     record {
       reset = lit≤ tt;
-      step = λ mem lines. lit≤ tt;
-      run = λ mem lines budget. (lit≤ tt, lit≤ tt);
-      wait = λ mem limit. lit< tt;
-      region = λ mem first last limit. lit≤ tt;
-      list = λ mem address d text. lit≤ tt;
+      step = λ mem lines. (lit≤ tt, no-ranges);
+      run = λ mem lines budget. (lit≤ tt, lit≤ tt, no-ranges);
+      wait = λ mem limit. (no-ranges, lit< tt);
+      region = λ mem first last limit. (lit≤ tt, no-ranges);
+      list = λ mem address d text. (lit≤ tt, no-ranges);
       assemble = λ line d. lit≤ tt;
+      all-ram = all-ram-board;
+      all-ram-map = one-range;
     }

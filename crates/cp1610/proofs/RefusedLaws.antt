@@ -7,6 +7,7 @@ use lib.ListN.{length}
 use Rattle.meter.specs.Answer.{Answer, wait, over, halts, unspecified}
 use Rattle.cpu.proofs.ActionLaws.{every-cost}
 use Rattle.cp1610.specs.Words.{unpacked, linesOf}
+use Rattle.cp1610.specs.MapWords.{onMap}
 use Rattle.cp1610.specs.Answers.{isRefusal}
 use Rattle.cp1610.specs.Call.{resetCall, stepCall, runCall}
 use Rattle.cp1610.specs.MeterCall.{walkedWord, waitCall, regionCall}
@@ -36,16 +37,17 @@ walked-high (unspecified address) = success-high 4 address (lit≤ tt)
 pub refused-alters-nothing : RefusedAltersNothing
 unfolding resetCall stepCall runCall waitCall regionCall listCall assembleCall loadCall writeCall
 refused-alters-nothing (cp1610-reset state) = refused-keeps (resetCall state) (λ m e. success-high 1 0 (lit≤ tt))
-refused-alters-nothing (cp1610-step state mem lines) =
-    refused-keeps (stepCall state mem lines)
-    (λ x e. success-high (x .kind) (x .cycles) (omega (arith, every-cost (unpacked state) mem (linesOf lines) x e .kinds)))
-refused-alters-nothing (cp1610-run state mem lines budget out) =
-    refused-keeps (runCall state mem lines budget out) (λ x e. success-high 1 0 (lit≤ tt))
-refused-alters-nothing (cp1610-wait mem address limit) = refused-keeps (waitCall mem address limit) (λ a e. walked-high a)
-refused-alters-nothing (cp1610-region mem first last limit out) =
-    refused-keeps (regionCall mem first last limit out) (λ n e. success-high 1 0 (lit≤ tt))
-refused-alters-nothing (cp1610-list mem address d text out) =
-    refused-keeps (listCall mem address d text out) (λ l e. success-high 1 0 (lit≤ tt))
+refused-alters-nothing (cp1610-step state mem map lines) =
+    refused-keeps (stepCall state map (onMap map mem) lines)
+    (λ x e. success-high (x .kind) (x .cycles) (omega (arith, every-cost (unpacked state) (onMap map mem) (linesOf lines) x e .kinds)))
+refused-alters-nothing (cp1610-run state mem map lines budget out) =
+    refused-keeps (runCall state map (onMap map mem) lines budget out) (λ x e. success-high 1 0 (lit≤ tt))
+refused-alters-nothing (cp1610-wait mem map address limit) =
+    refused-keeps (waitCall map (onMap map mem) address limit) (λ a e. walked-high a)
+refused-alters-nothing (cp1610-region mem map first last limit out) =
+    refused-keeps (regionCall map (onMap map mem) first last limit out) (λ n e. success-high 1 0 (lit≤ tt))
+refused-alters-nothing (cp1610-list mem map address d text out) =
+    refused-keeps (listCall map (onMap map mem) address d text out) (λ l e. success-high 1 0 (lit≤ tt))
 refused-alters-nothing (cp1610-assemble line d words) =
     refused-keeps (assembleCall line d words) (λ ws e. success-high 1 (length ws) (lit≤ tt))
 refused-alters-nothing (cp1610-load board mem file) =

@@ -12,7 +12,7 @@ use Rattle.run.specs.Run.{RunDone}
 abbrev pub isRefusal : ℕ → Bool
 isRefusal result = ltb result 0x100000000
 
--- "255 where a `state`, `out` or `words` buffer is shorter than its table says"
+-- "255 where a `state`, `out` or `words` buffer is shorter than its table says", or a `map` is none
 abbrev pub shortBuffer : ℕ
 shortBuffer = 255
 

@@ -26,7 +26,7 @@ called result lent = record { result = result; lent = lent }
 abbrev pub isShort : ℕ → List ℕ → Bool
 isShort least buffer = ltb (length buffer) least
 
--- what fixes a call: whether a buffer is too short, what it is lent, what document 01's definition reports, and what a success hands
+-- what fixes a call: whether a buffer is too short or a map is none, what it is lent, what document 01's definition reports, and what a success hands
 -- back
 pub record CallRule (A : Type 0) : Type 0 where
   pub short : Bool
@@ -39,7 +39,7 @@ abbrev pub byReport : {A : Type 0} → List Lent → (A → Called) → Report A
 byReport before success (refused n) = called n before
 byReport before success (answered x) = success x
 
--- a short buffer is "tested before all else; nothing is altered"
+-- that is "tested before all else; nothing is altered"
 abbrev pub callBy : {A : Type 0} → CallRule A → Called
 callBy rule =
     cond (rule .short) (called shortBuffer (rule .before)) (byReport (rule .before) (rule .success) (rule .report))

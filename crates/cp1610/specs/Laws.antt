@@ -2,15 +2,18 @@
 -- `proofs/StepsLaws`; `Calls` has what holds of every refused call.
 use Prim.Native.Nat.{ℕ, _≤_}
 use mathlib.Core.Path.{_≡_}
-use mathlib.Core.List.{List, [], _∷_, map}
+use mathlib.Core.Bool.{true}
+use mathlib.Core.List.{List, [], _∷_, map as each}
 use lib.ListN.{length, take, drop, replicate}
 use Rattle.refusal.specs.Report.{UnlessRefused}
 use Rattle.memory.specs.Bus.{Bus, readOf}
+use Rattle.memory.specs.Laws.{AllRam}
 use Rattle.cpu.specs.Machine.{Machine}
 use Rattle.cpu.specs.Steps.{StepMade, stepsFrom}
 use Rattle.listing.specs.Answer.{ListedLine}
 use Rattle.listing.specs.Disassemble.{textAt, Disassembly}
 use Rattle.cp1610.specs.Words.{stateLength, isSet, unpacked, packed, linesOf}
+use Rattle.cp1610.specs.MapWords.{boardOf, isMap, onMap, allRamWords}
 use Rattle.cp1610.specs.Called.{Called, callBy}
 use Rattle.cp1610.specs.Answers.{runLength}
 use Rattle.cp1610.specs.Call.{stepCall}
@@ -48,30 +51,34 @@ HasText line x = UnlessRefused (λ (l : ListedLine). take (l .length) (x .room) 
 
 abbrev pub ReadsTheText : Type 0
 ReadsTheText =
-    (mem : Bus) (address d : ℕ) (text out : List ℕ) →
-    WellLent (cp1610-list mem address d text out) →
-    HasText (textAt (readOf mem) address (isSet d)) (readListing (callOf (cp1610-list mem address d text out)))
+    (mem map : List ℕ) (address d : ℕ) (text out : List ℕ) →
+    WellLent (cp1610-list mem map address d text out) →
+    HasText (textAt (readOf (onMap map mem)) address (isSet d)) (readListing (callOf (cp1610-list mem map address d text out)))
 
--- the premise can be met: each function that has one, with the shortest buffers that are long enough
+-- the premise can be met: each function that has one, with the shortest buffers that are long enough and the map of no range; and the map of one
+-- 16-bit range over all addresses, which the header names, is that of an all-RAM board
 pub record ShortestAreWellLent : Type 0 where
   pub reset : WellLent (cp1610-reset (replicate stateLength 0))
-  pub step : (mem : Bus) (lines : ℕ) → WellLent (cp1610-step (replicate stateLength 0) mem lines)
-  pub run : (mem : Bus) (lines budget : ℕ) → WellLent (cp1610-run (replicate stateLength 0) mem lines budget (replicate runLength 0))
-  pub wait : (mem : Bus) (limit : ℕ) → WellLent (cp1610-wait mem 65535 limit)
-  pub region : (mem : Bus) (first last limit : ℕ) → WellLent (cp1610-region mem first last limit (replicate regionLength 0))
-  pub list : (mem : Bus) (address d : ℕ) (text : List ℕ) → WellLent (cp1610-list mem address d text (replicate listLength 0))
+  pub step : (mem : List ℕ) (lines : ℕ) → WellLent (cp1610-step (replicate stateLength 0) mem [] lines)
+  pub run : (mem : List ℕ) (lines budget : ℕ) → WellLent (cp1610-run (replicate stateLength 0) mem [] lines budget (replicate runLength 0))
+  pub wait : (mem : List ℕ) (limit : ℕ) → WellLent (cp1610-wait mem [] 65535 limit)
+  pub region : (mem : List ℕ) (first last limit : ℕ) → WellLent (cp1610-region mem [] first last limit (replicate regionLength 0))
+  pub list : (mem : List ℕ) (address d : ℕ) (text : List ℕ) → WellLent (cp1610-list mem [] address d text (replicate listLength 0))
   pub assemble : (line : List ℕ) (d : ℕ) → WellLent (cp1610-assemble line d (replicate lineWords 0))
+  pub all-ram : AllRam (boardOf allRamWords)
+  pub all-ram-map : isMap allRamWords ≡ true
 
 -- calls of a step one after the other with the same buffers, one for each of the numbers that stand for lines
-unfoldable pub callsFrom : List ℕ → Bus → List ℕ → List Called
-callsFrom words b [] = []
-callsFrom words b (n ∷ ns) =
-    let c : Called = callBy (stepCall words b n) in
-    c ∷ callsFrom (itemsIn c 0) (memoryIn c 1) ns
+unfoldable pub callsFrom : List ℕ → List ℕ → Bus → List ℕ → List Called
+callsFrom words map b [] = []
+callsFrom words map b (n ∷ ns) =
+    let c : Called = callBy (stepCall words map b n) in
+    c ∷ callsFrom (itemsIn c 0) map (memoryIn c 1) ns
 
--- a caller who keeps calling makes the list of steps
+-- a caller who keeps calling with one map makes the list of steps
 abbrev pub CallsAreSteps : Type 0
 CallsAreSteps =
-    (words : List ℕ) (b : Bus) (ns : List ℕ) →
+    (words map : List ℕ) (b : Bus) (ns : List ℕ) →
     stateLength ≤ length words →
-    map readStep (callsFrom words b ns) ≡ map (λ (x : StepMade). x .left) (stepsFrom (unpacked words) b (map linesOf ns))
+    isMap map ≡ true →
+    each readStep (callsFrom words map b ns) ≡ each (λ (x : StepMade). x .left) (stepsFrom (unpacked words) b (each linesOf ns))

@@ -1,5 +1,6 @@
 -- What the C interface promises: docs/C-INTERFACE.md, called the C interface page here, as definitions. Read Called and Call first.
 pub mod Words
+pub mod MapWords
 pub mod Answers
 pub mod Called
 pub mod Call

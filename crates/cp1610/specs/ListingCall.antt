@@ -1,6 +1,6 @@
 -- The C interface page, its table: what the calls of the lister and of the assembler answer and leave.
 use Prim.Native.Nat.{ℕ}
-use mathlib.Core.Bool.{Bool}
+use mathlib.Core.Bool.{Bool, not, _||_}
 use mathlib.Core.List.{List, [], _∷_, _++_}
 use lib.ListN.{length, drop}
 use Rattle.refusal.specs.Report.{Report}
@@ -9,6 +9,7 @@ use Rattle.listing.specs.Answer.{ListedLine}
 use Rattle.listing.specs.Disassemble.{Disassembly, disassembleOf}
 use Rattle.listing.specs.Assemble.{assembleOf}
 use Rattle.cp1610.specs.Words.{isSet, flagWord}
+use Rattle.cp1610.specs.MapWords.{isMap}
 use Rattle.cp1610.specs.Answers.{successWord}
 use Rattle.cp1610.specs.Called.{items, called, isShort, CallRule}
 
@@ -38,15 +39,15 @@ unfoldable pub listWords : List ℕ → ListedLine → List ℕ
 listWords out l = l .length ∷ l .words ∷ flagWord (l .double) ∷ drop listLength out
 
 -- what the lister reports and leaves of the text as the caller sees it: "kind 1"
-abbrev pub listedCall : List ℕ → List ℕ → Disassembly → CallRule ListedLine
-listedCall text out x =
+abbrev pub listedCall : List ℕ → List ℕ → List ℕ → Disassembly → CallRule ListedLine
+listedCall map text out x =
     record {
-      short = isShort listLength out;
+      short = isShort listLength out || not (isMap map);
       before = items text ∷ items out ∷ [];
       report = x .answer;
       success = λ l. called (successWord 1 0) (items (x .room) ∷ items (listWords out l) ∷ []);
     }
 
 -- document 01's lister
-unfoldable pub listCall : Bus → ℕ → ℕ → List ℕ → List ℕ → CallRule ListedLine
-listCall b address d text out = listedCall text out (disassembleOf b address (isSet d) text)
+unfoldable pub listCall : List ℕ → Bus → ℕ → ℕ → List ℕ → List ℕ → CallRule ListedLine
+listCall map b address d text out = listedCall map text out (disassembleOf b address (isSet d) text)

@@ -1,12 +1,13 @@
 -- The C interface page, its table: what the calls of the wait meter answer and leave.
 use Prim.Native.Nat.{ℕ}
-use mathlib.Core.Bool.{false}
+use mathlib.Core.Bool.{not, _||_}
 use mathlib.Core.List.{List, [], _∷_, _++_}
 use lib.ListN.{drop}
 use Rattle.refusal.specs.Report.{Report, refused, answered}
 use Rattle.memory.specs.Bus.{Bus}
 use Rattle.meter.specs.Answer.{Answer, wait, over, halts, unspecified, Longest, noWait, longest, Lowest, noOver, overAt, Named}
 use Rattle.meter.specs.Meter.{waitOf, regionOf}
+use Rattle.cp1610.specs.MapWords.{isMap}
 use Rattle.cp1610.specs.Answers.{successWord}
 use Rattle.cp1610.specs.Called.{items, called, isShort, CallRule}
 
@@ -22,10 +23,10 @@ waitWord (refused n) = n
 waitWord (answered a) = walkedWord a
 
 -- document 01's wait meter for an address: nothing is written
-unfoldable pub waitCall : Bus → ℕ → ℕ → CallRule Answer
-waitCall b address limit =
+unfoldable pub waitCall : List ℕ → Bus → ℕ → ℕ → CallRule Answer
+waitCall map b address limit =
     record {
-      short = false;
+      short = not (isMap map);
       before = [];
       report = waitOf b address limit;
       success = λ a. called (walkedWord a) [];
@@ -48,10 +49,10 @@ unfoldable pub regionWords : List ℕ → Longest → Lowest → List ℕ
 regionWords out l o = longestWords l ++ lowestWords o ++ drop regionLength out
 
 -- document 01's wait meter for a region: "kind 1"
-unfoldable pub regionCall : Bus → ℕ → ℕ → ℕ → List ℕ → CallRule Named
-regionCall b first last limit out =
+unfoldable pub regionCall : List ℕ → Bus → ℕ → ℕ → ℕ → List ℕ → CallRule Named
+regionCall map b first last limit out =
     record {
-      short = isShort regionLength out;
+      short = isShort regionLength out || not (isMap map);
       before = items out ∷ [];
       report = regionOf b first last limit;
       success = λ n. called (successWord 1 0) (items (regionWords out (n .longest-wait) (n .lowest-over)) ∷ []);

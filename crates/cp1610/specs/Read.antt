@@ -1,6 +1,7 @@
 -- How a caller reads what a call leaves, by the C interface page, and what document 01 answers to the call.
 use Prim.Native.Nat.{ℕ, _-_, _/_, _%_, _≤_, _<_}
-use mathlib.Core.Bool.{cond}
+use mathlib.Core.Path.{_≡_}
+use mathlib.Core.Bool.{true, cond}
 use mathlib.Core.List.{List, []}
 use lib.Dec.{eqb}
 use lib.ListN.{length, getD, take}
@@ -18,6 +19,7 @@ use Rattle.listing.specs.Assemble.{assembleOf}
 use Rattle.image.specs.Load.{Loading, loadOf}
 use Rattle.image.specs.Write.{Writing, writeOf}
 use Rattle.cp1610.specs.Words.{stateLength, isSet, unpacked, linesOf}
+use Rattle.cp1610.specs.MapWords.{isMap, onMap}
 use Rattle.cp1610.specs.Answers.{isRefusal, runLength}
 use Rattle.cp1610.specs.Called.{Lent, items, memory, Called}
 use Rattle.cp1610.specs.MeterCall.{regionLength}
@@ -123,22 +125,22 @@ readWriting c = record { answer = readReport countIn c; room = itemsIn c 0 }
 -- what document 01 answers to a call: of what type, and what
 abbrev pub AnswerTo : Call → Type 0
 AnswerTo (cp1610-reset state) = Report Machine
-AnswerTo (cp1610-step state mem lines) = Outcome
-AnswerTo (cp1610-run state mem lines budget out) = RunOutcome
-AnswerTo (cp1610-wait mem address limit) = Report Answer
-AnswerTo (cp1610-region mem first last limit out) = Report Named
-AnswerTo (cp1610-list mem address d text out) = Disassembly
+AnswerTo (cp1610-step state mem map lines) = Outcome
+AnswerTo (cp1610-run state mem map lines budget out) = RunOutcome
+AnswerTo (cp1610-wait mem map address limit) = Report Answer
+AnswerTo (cp1610-region mem map first last limit out) = Report Named
+AnswerTo (cp1610-list mem map address d text out) = Disassembly
 AnswerTo (cp1610-assemble line d words) = Report (List ℕ)
 AnswerTo (cp1610-load board mem file) = Loading
 AnswerTo (cp1610-write board mem first last room) = Writing
 
 abbrev pub answerTo : (c : Call) → AnswerTo c
 answerTo (cp1610-reset state) = answered resetMachine
-answerTo (cp1610-step state mem lines) = stepOf (unpacked state) mem (linesOf lines)
-answerTo (cp1610-run state mem lines budget out) = runOf (unpacked state) mem (linesOf lines) budget
-answerTo (cp1610-wait mem address limit) = waitOf mem address limit
-answerTo (cp1610-region mem first last limit out) = regionOf mem first last limit
-answerTo (cp1610-list mem address d text out) = disassembleOf mem address (isSet d) text
+answerTo (cp1610-step state mem map lines) = stepOf (unpacked state) (onMap map mem) (linesOf lines)
+answerTo (cp1610-run state mem map lines budget out) = runOf (unpacked state) (onMap map mem) (linesOf lines) budget
+answerTo (cp1610-wait mem map address limit) = waitOf (onMap map mem) address limit
+answerTo (cp1610-region mem map first last limit out) = regionOf (onMap map mem) first last limit
+answerTo (cp1610-list mem map address d text out) = disassembleOf (onMap map mem) address (isSet d) text
 answerTo (cp1610-assemble line d words) = assembleOf line (isSet d)
 answerTo (cp1610-load board mem file) = loadOf board mem file
 answerTo (cp1610-write board mem first last room) = writeOf board mem first last room
@@ -146,23 +148,23 @@ answerTo (cp1610-write board mem first last room) = writeOf board mem first last
 -- how a caller reads it
 abbrev pub readBack : (c : Call) → Called → AnswerTo c
 readBack (cp1610-reset state) = readReport readMachine
-readBack (cp1610-step state mem lines) = readStep
-readBack (cp1610-run state mem lines budget out) = readRun
-readBack (cp1610-wait mem address limit) = readReport readWalk
-readBack (cp1610-region mem first last limit out) = readReport readNamed
-readBack (cp1610-list mem address d text out) = readListing
+readBack (cp1610-step state mem map lines) = readStep
+readBack (cp1610-run state mem map lines budget out) = readRun
+readBack (cp1610-wait mem map address limit) = readReport readWalk
+readBack (cp1610-region mem map first last limit out) = readReport readNamed
+readBack (cp1610-list mem map address d text out) = readListing
 readBack (cp1610-assemble line d words) = readReport readAssembled
 readBack (cp1610-load board mem file) = readLoading
 readBack (cp1610-write board mem first last room) = readWriting
 
--- what a caller has to see to: buffers as long as the table says; an address has 16 bits by its type
+-- what a caller has to see to: buffers as long as the table says, and words that are a map; an address has 16 bits by its type
 abbrev pub WellLent : Call → Type 0
 WellLent (cp1610-reset state) = stateLength ≤ length state
-WellLent (cp1610-step state mem lines) = stateLength ≤ length state
-WellLent (cp1610-run state mem lines budget out) = (stateLength ≤ length state) × (runLength ≤ length out)
-WellLent (cp1610-wait mem address limit) = address < 65536
-WellLent (cp1610-region mem first last limit out) = regionLength ≤ length out
-WellLent (cp1610-list mem address d text out) = listLength ≤ length out
+WellLent (cp1610-step state mem map lines) = (stateLength ≤ length state) × (isMap map ≡ true)
+WellLent (cp1610-run state mem map lines budget out) = (stateLength ≤ length state) × (runLength ≤ length out) × (isMap map ≡ true)
+WellLent (cp1610-wait mem map address limit) = (isMap map ≡ true) × (address < 65536)
+WellLent (cp1610-region mem map first last limit out) = (regionLength ≤ length out) × (isMap map ≡ true)
+WellLent (cp1610-list mem map address d text out) = (listLength ≤ length out) × (isMap map ≡ true)
 WellLent (cp1610-assemble line d words) = lineWords ≤ length words
 WellLent (cp1610-load board mem file) = Unit
 WellLent (cp1610-write board mem first last room) = Unit

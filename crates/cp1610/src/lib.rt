@@ -2,7 +2,7 @@
 // back as words. docs/C-INTERFACE.md is the page for callers.
 ghost use mathlib.Core.Path.{_≡_};
 ghost use mathlib.Core.List.{[], _∷_};
-ghost use Rattle.memory.specs.Bus.{busOf};
+ghost use Rattle.cp1610.specs.MapWords.{onMap};
 ghost use Rattle.cp1610.specs.Called.{items, memory, called};
 ghost use Rattle.cp1610.specs.Calls.{
   callOf,
@@ -24,6 +24,7 @@ use run::RunAnswer;
 
 mod answers;
 mod listing_words;
+mod map_words;
 mod meter_words;
 mod words;
 
@@ -42,14 +43,19 @@ pub extern "C" fn cp1610_reset(state: &mut [u16]) -> u64
 // One step of the processor. The state's words are written only once it is known that the step was not refused. The step is the
 // run's, so that the library holds the processor's step once.
 #[no_mangle]
-pub extern "C" fn cp1610_step(state: &mut [u16], mem: &mut [u16], lines: u32) -> u64
-    ensures { λ r. ⌜ called r (items (now (state .exit)) ∷ memory (busOf (now (mem .exit))) ∷ [])
-        ≡ callOf (cp1610-step (now (state .entry)) (busOf (now (mem .entry))) lines) ⌝ }
+pub extern "C" fn cp1610_step(state: &mut [u16], mem: &mut [u16], map: &[u16], lines: u32) -> u64
+    ensures { λ r. ⌜ called r (items (now (state .exit)) ∷ memory (onMap (now (map .entry)) (now (mem .exit))) ∷ [])
+        ≡ callOf (cp1610-step (now (state .entry)) (now (mem .entry)) (now (map .entry)) lines) ⌝ }
 {
     if state.len() < words::STATE_LENGTH {
         return answers::SHORT_BUFFER;
     }
-    let stepped = run::one_step(words::unpack(state), mem, words::lines_of(lines));
+    let read = map_words::read_map(map);
+    if !read.whole {
+        return answers::SHORT_BUFFER;
+    }
+    let board = read.board;
+    let stepped = run::one_step(words::unpack(state), board, mem, words::lines_of(lines));
     let answer = stepped.answer;
     let result = answers::step_word(answer);
     let refused = answers::is_refusal(result);
@@ -66,12 +72,13 @@ pub extern "C" fn cp1610_step(state: &mut [u16], mem: &mut [u16], lines: u32) ->
 pub extern "C" fn cp1610_run(
     state: &mut [u16],
     mem: &mut [u16],
+    map: &[u16],
     lines: u32,
     budget: u32,
     out: &mut [u32],
 ) -> u64
-    ensures { λ r. ⌜ called r (items (now (state .exit)) ∷ memory (busOf (now (mem .exit))) ∷ items (now (out .exit)) ∷ [])
-        ≡ callOf (cp1610-run (now (state .entry)) (busOf (now (mem .entry))) lines budget (now (out .entry))) ⌝ }
+    ensures { λ r. ⌜ called r (items (now (state .exit)) ∷ memory (onMap (now (map .entry)) (now (mem .exit))) ∷ items (now (out .exit)) ∷ [])
+        ≡ callOf (cp1610-run (now (state .entry)) (now (mem .entry)) (now (map .entry)) lines budget (now (out .entry))) ⌝ }
 {
     if state.len() < words::STATE_LENGTH {
         return answers::SHORT_BUFFER;
@@ -79,7 +86,18 @@ pub extern "C" fn cp1610_run(
     if out.len() < answers::RUN_LENGTH {
         return answers::SHORT_BUFFER;
     }
-    let ran = run::run(words::unpack(state), mem, words::lines_of(lines), budget);
+    let read = map_words::read_map(map);
+    if !read.whole {
+        return answers::SHORT_BUFFER;
+    }
+    let board = read.board;
+    let ran = run::run(
+        words::unpack(state),
+        board,
+        mem,
+        words::lines_of(lines),
+        budget,
+    );
     let answer = ran.answer;
     match answer {
         RunAnswer::Refused(refusal) => refusal::number(refusal) as u64,
@@ -98,28 +116,39 @@ pub extern "C" fn cp1610_run(
 
 // The wait meter for an address.
 #[no_mangle]
-pub extern "C" fn cp1610_wait(mem: &[u16], address: u16, limit: u16) -> u64
-    ensures { λ r. ⌜ called r [] ≡ callOf (cp1610-wait (busOf (now (mem .entry))) address limit) ⌝ }
+pub extern "C" fn cp1610_wait(mem: &[u16], map: &[u16], address: u16, limit: u16) -> u64
+    ensures { λ r. ⌜ called r [] ≡ callOf (cp1610-wait (now (mem .entry)) (now (map .entry)) address limit) ⌝ }
 {
-    meter_words::wait_word(meter::wait(mem, address, limit))
+    let read = map_words::read_map(map);
+    if !read.whole {
+        return answers::SHORT_BUFFER;
+    }
+    let board = read.board;
+    meter_words::wait_word(meter::wait(board, mem, address, limit))
 }
 
 // The wait meter for a region. `out` is written only once it is known that the region was not refused.
 #[no_mangle]
 pub extern "C" fn cp1610_region(
     mem: &[u16],
+    map: &[u16],
     first: u16,
     last: u16,
     limit: u16,
     out: &mut [u32],
 ) -> u64
     ensures { λ r. ⌜ called r (items (now (out .exit)) ∷ [])
-        ≡ callOf (cp1610-region (busOf (now (mem .entry))) first last limit (now (out .entry))) ⌝ }
+        ≡ callOf (cp1610-region (now (mem .entry)) (now (map .entry)) first last limit (now (out .entry))) ⌝ }
 {
     if out.len() < meter_words::REGION_LENGTH {
         return answers::SHORT_BUFFER;
     }
-    let answer = meter::region(mem, first, last, limit);
+    let read = map_words::read_map(map);
+    if !read.whole {
+        return answers::SHORT_BUFFER;
+    }
+    let board = read.board;
+    let answer = meter::region(board, mem, first, last, limit);
     match answer {
         RegionAnswer::Refused(refusal) => refusal::number(refusal) as u64,
         RegionAnswer::Found { longest, lowest } => {
@@ -133,18 +162,24 @@ pub extern "C" fn cp1610_region(
 #[no_mangle]
 pub extern "C" fn cp1610_list(
     mem: &[u16],
+    map: &[u16],
     address: u16,
     d: u8,
     text: &mut [u8],
     out: &mut [u32],
 ) -> u64
     ensures { λ r. ⌜ called r (items (now (text .exit)) ∷ items (now (out .exit)) ∷ [])
-        ≡ callOf (cp1610-list (busOf (now (mem .entry))) address d (now (text .entry)) (now (out .entry))) ⌝ }
+        ≡ callOf (cp1610-list (now (mem .entry)) (now (map .entry)) address d (now (text .entry)) (now (out .entry))) ⌝ }
 {
     if out.len() < listing_words::LIST_LENGTH {
         return answers::SHORT_BUFFER;
     }
-    let answer = listing::disassemble(mem, address, d != 0, text);
+    let read = map_words::read_map(map);
+    if !read.whole {
+        return answers::SHORT_BUFFER;
+    }
+    let board = read.board;
+    let answer = listing::disassemble(board, mem, address, d != 0, text);
     match answer {
         Listing::Refused(refusal) => refusal::number(refusal) as u64,
         Listing::Listed {
