@@ -46,14 +46,14 @@ fn print_step(registers: [u16; 8], answer: StepAnswer) {
     print_cycles(answer);
 }
 
-// One step with nothing requested, and the state after it.
+// One step with nothing requested, on a board of RAM alone, and the state after it.
 fn shown(state: State, mem: &mut [u16]) -> State {
     let lines = Lines {
         intrm: true,
         busrq: true,
         external: 0,
     };
-    let after = cpu::step(state, mem, lines);
+    let after = cpu::step(state, memory::map::all_ram(), mem, lines);
     let next = after.state;
     let registers = next.registers;
     let answer = after.answer;

@@ -1,11 +1,11 @@
 -- The form of a row of fields: a row that gives each key the form of its values.
-use Prim.Native.Nat.{ℕ, suc, _%_}
+use Prim.Native.Nat.{ℕ, zero, suc, _%_}
 use Prim.Native.Char.{code}
-use mathlib.Core.Bool.{Bool, true, not, cond, _||_, _&&_}
+use mathlib.Core.Bool.{Bool, true, false, not, cond, _||_, _&&_}
 use mathlib.Core.List.{List, [], _∷_}
 use lib.Dec.{eqb, ltb, leb}
 use lib.ListN.{length, drop, getD}
-use Rattle.harness.specs.Text.{quoted, partBefore, equalText, standsIn, allStandIn}
+use Rattle.harness.specs.Text.{quoted, partBefore, partBehind, equalText, standsIn, allStandIn}
 use Rattle.harness.specs.Fields.{firstField, afterFirstField, startsWithKey, fieldsOf, hasKey, valueOfKey, firstValue}
 
 abbrev pub decimalDigits : List ℕ
@@ -39,6 +39,25 @@ isBit value = eqb (length value) 1 && allStandIn value (quoted "01")
 abbrev pub isHex : List ℕ → Bool
 isHex value = eqb (length value % 2) 0 && allStandIn value hexDigits
 
+abbrev pub isRangeKind : List ℕ → Bool
+isRangeKind value = (equalText value (quoted "rom") || equalText value (quoted "ram16")) || equalText value (quoted "ram8")
+
+-- a range of a map, as `0100-01FF:ram16`
+unfoldable pub isRange : List ℕ → Bool
+isRange value =
+    let behind : List ℕ = partBehind (code "-") value in
+    (isWord (partBefore (code "-") value) && isWord (partBefore (code ":") behind)) && isRangeKind (partBehind (code ":") behind)
+
+-- ranges with commas between them, at most so many
+unfoldable pub areRanges : ℕ → List ℕ → Bool
+areRanges zero value = false
+areRanges (suc n) value =
+    isRange (partBefore (code ",") value) && cond (standsIn (code ",") value) (areRanges n (partBehind (code ",") value)) true
+
+-- .. or `none`; one range more can be written than a board takes
+abbrev pub isMap : List ℕ → Bool
+isMap value = equalText value (quoted "none") || areRanges 17 value
+
 unfoldable pub withoutFirst : List ℕ → ℕ → List ℕ
 withoutFirst value letter = cond (eqb (getD value 0 0) letter) (drop 1 value) value
 
@@ -51,15 +70,16 @@ arePicked (l ∷ letters) value = arePicked letters (withoutFirst value l)
 abbrev pub areLetters : List ℕ → List ℕ → Bool
 areLetters value letters = equalText value (quoted "-") || (ltb 0 (length value) && arePicked letters value)
 
--- word, list, number, bit, hex, any, or capital letters: the form's first letter tells which
+-- word, list, number, bit, hex, map, any, or capital letters: the form's first letter tells which
 unfoldable pub hasForm : List ℕ → List ℕ → Bool
 hasForm value form =
     let letter : ℕ = getD form 0 0 in
-    (((((((eqb letter (code "w") && isWord value)
+    ((((((((eqb letter (code "w") && isWord value)
     || (eqb letter (code "l") && isList value))
     || (eqb letter (code "n") && isNumber value))
     || (eqb letter (code "b") && isBit value))
     || (eqb letter (code "h") && isHex value))
+    || (eqb letter (code "m") && isMap value))
     || eqb letter (code "a"))
     || ((leb (code "A") letter && leb letter (code "Z")) && areLetters value form))
 

@@ -6,3 +6,4 @@ pub mod Forms
 pub mod Answers
 pub mod Tally
 pub mod Words
+pub mod Maps

@@ -22,6 +22,7 @@
 //     words::put(memory, fields)    puts the words of all fields `0100=02E4,0005` into a memory
 //     words::are_inside(fields, size)       whether these words lie inside a memory of so many words
 //     words::list_length(value), words::list_word(value, index)     how many words a list of words has, and one of them
+//     map::board(fields, key)       the board whose map its value writes, or the all-RAM board
 //     answer::fit, answer::refuses  the form of an answer, and a refusal with its number
 //
 // The key `text` takes all that is left of its row, blanks included.

@@ -7,15 +7,20 @@
 //     number    1 to 18 decimal digits
 //     bit       0 or 1
 //     hex       bytes of two hexadecimal digits each, or none
+//     map       ranges with commas between them, as 0000-00EF:ram8,5000-6FFF:rom, at most 17, or the word `none`
 //     any       whatever stands there
 //     SZOCID    some of these capital letters, in their order, or `-` for none
 //
 // The key `0000` stands for every key of four hexadecimal digits.
 ghost use mathlib.Core.Path.{_≡_};
 ghost use Rattle.harness.specs.Forms.{isWord, fitsColumn, isList, isNumber, isBit, isHex};
+ghost use Rattle.harness.specs.Forms.{isRangeKind, isRange, areRanges, isMap};
 ghost use Rattle.harness.specs.Forms.{withoutFirst, arePicked, areLetters, hasForm, firstKey, formOfKey, firstFits, fitForm};
 use crate::fields;
 use crate::text;
+
+// One range more than a board takes, so that a case can write a map that is refused.
+const MOST_RANGES: usize = 17;
 
 // A word: four hexadecimal digits.
 pub(crate) fn is_word(value: &[u8]) -> bool
@@ -70,6 +75,48 @@ fn is_hex(value: &[u8]) -> bool
     (value.len() % 2 == 0) & text::all_stand_in(value, b"0123456789ABCDEF")
 }
 
+fn is_range_kind(value: &[u8]) -> bool
+    ensures { λ r. ⌜ r ≡ isRangeKind (now (value .entry)) ⌝ }
+{
+    text::same(value, b"rom") | text::same(value, b"ram16") | text::same(value, b"ram8")
+}
+
+// A range of a map, as `0100-01FF:ram16`. Its first address may stand above its last: a case can write a map that is refused.
+fn is_range(value: &[u8]) -> bool
+    ensures { λ r. ⌜ r ≡ isRange (now (value .entry)) ⌝ }
+{
+    let behind = text::behind(value, b'-');
+    is_word(text::before(value, b'-'))
+        & is_word(text::before(behind, b':'))
+        & is_range_kind(text::behind(behind, b':'))
+}
+
+// Ranges with commas between them.
+fn are_ranges(value: &[u8]) -> bool
+    ensures { λ r. ⌜ r ≡ areRanges 17 (now (value .entry)) ⌝ }
+{
+    let mut rest = value;
+    let mut i = 0;
+    while i < MOST_RANGES {
+        if !is_range(text::before(rest, b',')) {
+            return false;
+        }
+        if !text::stands_in(b',', rest) {
+            return true;
+        }
+        let next = text::behind(rest, b',');
+        rest = next;
+        i += 1;
+    }
+    false
+}
+
+fn is_map(value: &[u8]) -> bool
+    ensures { λ r. ⌜ r ≡ isMap (now (value .entry)) ⌝ }
+{
+    text::same(value, b"none") | are_ranges(value)
+}
+
 // The value without its first letter, if it is this one.
 fn without(value: &[u8], letter: u8) -> &[u8]
     ensures { λ r. ⌜ now r ≡ withoutFirst (now (value .entry)) letter ⌝ }
@@ -111,6 +158,7 @@ fn has_form(value: &[u8], form: &[u8]) -> bool
         | ((letter == b'n') & is_number(value))
         | ((letter == b'b') & is_bit(value))
         | ((letter == b'h') & is_hex(value))
+        | ((letter == b'm') & is_map(value))
         | (letter == b'a')
         | ((b'A' <= letter) & (letter <= b'Z') & are_letters(value, form))
 }

@@ -2,6 +2,7 @@
 use harness::answer;
 use harness::fields;
 use harness::form;
+use harness::map;
 use harness::text;
 use harness::words;
 use listing::Listing;
@@ -18,7 +19,7 @@ const BLANK: u8 = b'#';
 fn is_formed(before: &[u8], after: &[u8]) -> bool {
     form::fit(
         before,
-        b"size=number fill=word 0000=list address=word d=bit room=number",
+        b"size=number fill=word map=map 0000=list address=word d=bit room=number",
     )
         & answer::fit(after, b"listed", b"answer=any words=number d=bit text=any")
 }
@@ -60,7 +61,8 @@ fn is_listed(memory: &[u16], text: &mut [u8], before: &[u8], after: &[u8]) -> bo
     if text.len() < room {
         return false;
     }
-    let answer = listing::disassemble(&memory[0..size], address, double, &mut text[0..room]);
+    let board = map::board(before, b"map");
+    let answer = listing::disassemble(board, &memory[0..size], address, double, &mut text[0..room]);
     is_answer(answer, after) & words::are_inside(before, size)
 }
 

@@ -2,6 +2,7 @@
 use crate::rows;
 use harness::answer;
 use harness::fields;
+use harness::map;
 use meter::LongestWait;
 use meter::LowestOver;
 use meter::RegionAnswer;
@@ -42,8 +43,9 @@ fn tells_answer(after: &[u8], given: RegionAnswer) -> bool {
 }
 
 pub(crate) fn agree(memory: &[u16], before: &[u8], after: &[u8]) -> bool {
+    let board = map::board(before, b"map");
     let first = fields::word(before, b"first", 0);
     let last = fields::word(before, b"last", 0);
-    let given = meter::region(memory, first, last, rows::limit_of(before));
+    let given = meter::region(board, memory, first, last, rows::limit_of(before));
     tells_answer(after, given)
 }

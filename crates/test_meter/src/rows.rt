@@ -12,7 +12,7 @@ fn are_of_wait(name: &[u8], before: &[u8], after: &[u8]) -> bool {
     is_wait(name)
         & form::fit(
             before,
-            b"size=number fill=word 0000=list address=word limit=number",
+            b"size=number fill=word 0000=list map=map address=word limit=number",
         )
         & form::fit(
             after,
@@ -24,7 +24,7 @@ fn are_of_region(name: &[u8], before: &[u8], after: &[u8]) -> bool {
     fields::is_kind(name, b"region")
         & form::fit(
             before,
-            b"size=number fill=word 0000=list first=word last=word limit=number",
+            b"size=number fill=word 0000=list map=map first=word last=word limit=number",
         )
         & answer::fit(
             after,

@@ -1,6 +1,7 @@
 // The meter for an address: its call, and its answer compared with what a case tells.
 use crate::rows;
 use harness::fields;
+use harness::map;
 use meter::WaitAnswer;
 use meter::Walked;
 
@@ -29,7 +30,8 @@ fn tells_answer(after: &[u8], answer: WaitAnswer) -> bool {
 }
 
 pub(crate) fn agree(memory: &[u16], before: &[u8], after: &[u8]) -> bool {
+    let board = map::board(before, b"map");
     let address = fields::word(before, b"address", 0);
-    let answer = meter::wait(memory, address, rows::limit_of(before));
+    let answer = meter::wait(board, memory, address, rows::limit_of(before));
     tells_answer(after, answer)
 }

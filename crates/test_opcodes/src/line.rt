@@ -2,6 +2,7 @@
 use harness::text;
 use listing::Assembly;
 use listing::Listing;
+use memory::map;
 
 pub(crate) struct Line {
     pub text: [u8; 16],
@@ -13,7 +14,7 @@ pub(crate) struct Line {
 // The line of three words. One of 17 bytes stands for a refusal: no line is so long.
 pub(crate) fn line_of(memory: [u16; 3], double: bool) -> Line {
     let mut text = [0u8; 16];
-    let answer = listing::disassemble(&memory, 0, double, &mut text);
+    let answer = listing::disassemble(map::all_ram(), &memory, 0, double, &mut text);
     match answer {
         Listing::Refused(_) => Line {
             text: text,

@@ -24,7 +24,12 @@ struct Left {
 }
 
 fn step_from(before: &[u8], memory: &mut [u16]) -> Left {
-    let stepped = cpu::step(rows::state_before(before), memory, rows::lines_of(before));
+    let stepped = cpu::step(
+        rows::state_before(before),
+        rows::board_of(before),
+        memory,
+        rows::lines_of(before),
+    );
     let state = stepped.state;
     let given = stepped.answer;
     Left {
@@ -36,6 +41,7 @@ fn step_from(before: &[u8], memory: &mut [u16]) -> Left {
 fn run_from(before: &[u8], memory: &mut [u16]) -> Left {
     let ran = run::run(
         rows::state_before(before),
+        rows::board_of(before),
         memory,
         rows::lines_of(before),
         rows::budget_of(before),

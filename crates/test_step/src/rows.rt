@@ -4,7 +4,9 @@ use cpu::State;
 use cpu::Status;
 use harness::fields;
 use harness::form;
+use harness::map;
 use harness::words;
+use memory::map::Board;
 
 fn is_step(row: &[u8]) -> bool {
     fields::is_kind(row, b"step")
@@ -28,7 +30,7 @@ fn is_given(before: &[u8]) -> bool {
         before,
         b"r0=word r1=word r2=word r3=word r4=word r5=word r6=word r7=word flags=SZOCID \
           halted=bit ready=bit pending=bit level=bit intrm=bit busrq=bit inputs=word \
-          size=number fill=word 0000=list budget=number",
+          size=number map=map fill=word 0000=list budget=number",
     )
         & words::are_inside(before, size_of(before))
         & (fields::number(before, b"budget", 0) < 4294967296)
@@ -64,6 +66,10 @@ pub(crate) fn are_case(name: &[u8], before: &[u8], after: &[u8]) -> bool {
 // How many words the lent memory has.
 pub(crate) fn size_of(before: &[u8]) -> usize {
     fields::number(before, b"size", 65536) as usize
+}
+
+pub(crate) fn board_of(before: &[u8]) -> Board {
+    map::board(before, b"map")
 }
 
 // Makes the memory that the call is given: the case's words, and one word elsewhere.

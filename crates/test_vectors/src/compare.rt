@@ -7,6 +7,7 @@ use cpu::Lines;
 use cpu::State;
 use cpu::StepAnswer;
 use harness::words;
+use memory::map;
 
 // What of the outcome is not as the vector has it.
 pub(crate) struct Differences {
@@ -65,7 +66,7 @@ fn verdict_on(found: Differences) -> Verdict {
 // The whole of both memories is compared, so that a store which the vector does not have is seen, wherever it goes.
 fn run_vector(vector: Vector, memory: &mut Memory, expected: &Memory) -> Verdict {
     let after = vector.after;
-    let stepped = cpu::step(vector.before, memory, quiet_lines());
+    let stepped = cpu::step(vector.before, map::all_ram(), memory, quiet_lines());
     let state = stepped.state;
     let answer = stepped.answer;
     verdict_on(Differences {

@@ -7,16 +7,17 @@ use Rattle.harness.proofs.form.has_form.Tie as tie
 returns : tie.Need-returns
 unfolding hasForm
 returns c =
-    let hex = c .before in
-    let number = hex .before .before in
+    let map = c .before in
+    let number = map .before .before .before in
     let word = number .before .before in
     rw (
       word .before .byte-at .ensures,
       word .is-word .ensures,
       number .before .is-list .ensures,
       number .is-number .ensures,
-      hex .before .is-bit .ensures,
-      hex .is-hex .ensures,
+      map .before .before .is-bit .ensures,
+      map .before .is-hex .ensures,
+      map .is-map .ensures,
       c .are-letters .ensures,
     )
 
@@ -24,6 +25,7 @@ pub has-form-spec : {M : Type 1} → statement M
 has-form-spec =
     tie.close
     (tie.spec
+    (λ c κs. search needs)
     (λ c κs. search needs)
     (λ c κs. search needs)
     (λ c κs. search needs)
