@@ -70,7 +70,37 @@ static void first_state(uint16_t *state, unsigned flags) {
         state[CP1610_S + n] = flags >> n & 1;
 }
 
+/* ---- the maps of the mixed loop, by their numbers */
+
+static void add_range(struct map *map, uint16_t first, uint16_t last, uint16_t kind) {
+    const uint16_t range[CP1610_RANGE_WORDS] = {first, last, kind};
+    memcpy(map->words + map->length, range, sizeof range);
+    map->length += CP1610_RANGE_WORDS;
+}
+
+/* 0 all-RAM; 1 six ranges, as a console has them; 2 sixteen ranges, of which the last has every word that is met. */
+static struct map numbered_map(uint64_t number) {
+    struct map map = {.length = 0};
+    if (number == 1) {
+        add_range(&map, 0x0000, 0x03FF, CP1610_RAM16);
+        add_range(&map, 0x0400, 0x04FF, CP1610_RAM8);
+        add_range(&map, 0x1000, 0x1FFF, CP1610_ROM);
+        add_range(&map, 0x3000, 0x37FF, CP1610_ROM);
+        add_range(&map, 0x3800, 0x39FF, CP1610_RAM8);
+        add_range(&map, 0x5000, 0x6FFF, CP1610_ROM);
+        return map;
+    }
+    for (uint16_t at = 0xFFF0; number == 2 && at < 0xFFFF; at++)
+        add_range(&map, at, at, CP1610_ROM);
+    add_range(&map, 0x0000, 0xFFFF, CP1610_RAM16);
+    return map;
+}
+
 /* ---- the two machines side by side */
+
+struct plain_board plain_on(uint16_t *words, size_t length, const struct map *map) {
+    return (struct plain_board){words, length, map->words, map->length};
+}
 
 void to_plain(struct plain *p, const uint16_t *state) {
     memcpy(p->r, state, sizeof p->r);
@@ -178,6 +208,43 @@ uint32_t any_lines(void) {
     return lines;
 }
 
+/* An address in the memory or not far past it, at an end of the words, or anywhere. */
+static uint16_t any_address(size_t length) {
+    return one_in(8) ? any() : one_in(8) ? (uint16_t)(any() % 5 - 2) : below((uint32_t)length + 2);
+}
+
+/* All-RAM in one of four; else up to 16 ranges, which overlap, with a long one at the end in one of two so that much is mapped. */
+struct map any_map(size_t length) {
+    struct map map = {.length = 0};
+    if (one_in(4)) {
+        add_range(&map, 0x0000, 0xFFFF, CP1610_RAM16);
+        return map;
+    }
+    for (uint32_t ranges = one_in(4) ? CP1610_MOST_RANGES : below(CP1610_MOST_RANGES); ranges > 0; ranges--) {
+        uint16_t a = any_address(length), b = one_in(2) ? any_address(length) : a;
+        add_range(&map, a < b ? a : b, a < b ? b : a, below(3));
+    }
+    if (one_in(2) && map.length < CP1610_MOST_RANGES * CP1610_RANGE_WORDS)
+        add_range(&map, 0x0000, 0xFFFF, below(3));
+    return map;
+}
+
+/* A good map with a range too many, a range of which the first address is above the last, a kind that there is none of, which counts in
+ * the first 16 ranges only, or a word or two more than its ranges have. */
+struct map any_wrong_map(size_t length) {
+    struct map map = any_map(length);
+    uint32_t spoiled = below(4);
+    while (spoiled == 0 && map.length <= CP1610_MOST_RANGES * CP1610_RANGE_WORDS)
+        add_range(&map, 0x0000, 0xFFFF, below(3));
+    if (spoiled == 1 && map.length > 0)
+        map.words[below((uint32_t)map.length / CP1610_RANGE_WORDS) * CP1610_RANGE_WORDS] = 0xFFFF;
+    if ((spoiled == 2 || one_in(4)) && map.length > 0)
+        map.words[map.length - 1] = CP1610_RAM8 + 1 + below(3);
+    for (uint32_t more = spoiled == 3 ? 1 + below(2) : 0; more > 0; more--)
+        map.words[map.length++] = any() & 1;
+    return map;
+}
+
 void show(const char *name, const uint16_t *state, uint64_t answer) {
     printf("%-7s", name);
     for (int i = 0; i < CP1610_STATE_WORDS; i++)
@@ -185,10 +252,63 @@ void show(const char *name, const uint16_t *state, uint64_t answer) {
     printf(" answer %llX\n", (unsigned long long)answer);
 }
 
+void show_map(const struct map *map) {
+    printf("map    ");
+    for (size_t i = 0; i < map->length; i++)
+        printf("%s%04X", i % CP1610_RANGE_WORDS ? "-" : " ", map->words[i]);
+    printf("\n");
+}
+
 bool is(const char *what, bool holds) {
     if (!holds)
         printf("wrong: %s\n", what);
     return holds;
+}
+
+/* ---- the edges of a map */
+
+/* A map of so many ranges of 8-bit RAM over all addresses. */
+static struct map ranges_of(int count) {
+    struct map map = {.length = 0};
+    for (int n = 0; n < count; n++)
+        add_range(&map, 0x0000, 0xFFFF, CP1610_RAM8);
+    return map;
+}
+
+static bool none_edges(asks *call) {
+    bool good = true;
+    for (size_t length = 0; length < MAP_ROOM; length++) {
+        struct map map = ranges_of(CP1610_MOST_RANGES + 1);
+        map.length = length;
+        if (length % CP1610_RANGE_WORDS)
+            good &= is("a length that is no multiple of 3 is no map, before 1", call(MEMORY + 1, &map) == CP1610_NO_MAP);
+        else
+            good &= is("a map of any length is refused by 1 first", call(MEMORY + 1, &map) == CP1610_MEMORY_TOO_LONG);
+    }
+    for (int n = 0; n <= CP1610_MOST_RANGES; n++) {
+        struct map map = ranges_of(CP1610_MOST_RANGES + 1);
+        map.words[n * CP1610_RANGE_WORDS + 2] = CP1610_RAM8 + 1;
+        uint64_t wanted = n < CP1610_MOST_RANGES ? CP1610_NO_MAP : CP1610_BAD_MAP;
+        good &= is("a kind above 2 is no map, in the first 16 ranges", call(MEMORY, &map) == wanted);
+    }
+    return good;
+}
+
+bool map_edges(asks *call) {
+    struct map most = ranges_of(CP1610_MOST_RANGES), more = ranges_of(CP1610_MOST_RANGES + 1);
+    bool good = none_edges(call);
+    good &= is("17 ranges are refused by 14", call(MEMORY, &more) == CP1610_BAD_MAP);
+    good &= is("16 are not", call(MEMORY, &most) != CP1610_BAD_MAP);
+    for (int n = 0; n < CP1610_MOST_RANGES; n++) {
+        struct map map = most;
+        map.words[n * CP1610_RANGE_WORDS] = 1;
+        map.words[n * CP1610_RANGE_WORDS + 1] = 0;
+        good &= is("a first above its last is refused by 14", call(MEMORY, &map) == CP1610_BAD_MAP);
+        good &= is("which comes after 1", call(MEMORY + 1, &map) == CP1610_MEMORY_TOO_LONG);
+        map.words[n * CP1610_RANGE_WORDS + 1] = 1;
+        good &= is("a range of one word is not", call(MEMORY, &map) != CP1610_BAD_MAP);
+    }
+    return good;
 }
 
 uint64_t number(char **argv, int argc, int n, const char *fallback) {
@@ -201,5 +321,6 @@ struct load load_of(char **argv, int argc) {
         .budget = (uint32_t)number(argv, argc, 2, "1000000"),
         .flags = (unsigned)number(argv, argc, 3, "0x100"),
         .runs = (int)number(argv, argc, 4, "400"),
+        .map = numbered_map(number(argv, argc, 5, "0")),
     };
 }

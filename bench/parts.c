@@ -1,5 +1,5 @@
-/* Drives the meter, the lister, the assembler, the loader and the writer, whose machine instructions bench/measure counts. Each line printed
- * begins with what to divide by. */
+/* Drives the meter, the lister, the assembler, the loader and the writer, whose machine instructions bench/measure counts, all under
+ * the all-RAM map. Each line printed begins with what to divide by. */
 #include <cp1610.h>
 #include <stdio.h>
 #include <string.h>
@@ -24,7 +24,8 @@ static int lines(void) {
             uint8_t text[CP1610_TEXT_ROOM];
             uint32_t out[CP1610_LIST_WORDS];
             uint16_t words[CP1610_LINE_WORDS];
-            if (cp1610_is_refused(cp1610_list(mem, 65536, (uint16_t)address, d, text, sizeof text, out, CP1610_LIST_WORDS)))
+            if (cp1610_is_refused(cp1610_list(mem, 65536, CP1610_ALL_RAM, CP1610_ALL_RAM_WORDS, (uint16_t)address, d, text, sizeof text, out,
+                    CP1610_LIST_WORDS)))
                 return -1;
             if (cp1610_is_refused(cp1610_assemble(text, out[CP1610_TEXT_LENGTH], d, words, CP1610_LINE_WORDS)))
                 return -1;
@@ -43,7 +44,7 @@ int main(void) {
     int listed = lines();
     printf("%d lines listed and assembled\n", listed);
     uint32_t named[CP1610_REGION_WORDS];
-    uint64_t metered = cp1610_region(mem, 65536, 0, 65535, 0, named, CP1610_REGION_WORDS);
+    uint64_t metered = cp1610_region(mem, 65536, CP1610_ALL_RAM, CP1610_ALL_RAM_WORDS, 0, 65535, 0, named, CP1610_REGION_WORDS);
     printf("65536 starts metered, longest wait %u at %04X\n", named[CP1610_LONGEST], named[CP1610_LONGEST_START]);
     return !equal || listed < 0 || cp1610_is_refused(metered);
 }

@@ -3,12 +3,9 @@
 
 enum { R4 = 4, R6 = 6, R7 = 7 };
 enum { GRANTED = 3, INTERRUPTED = 4, EXECUTED = 5 };
-enum { MEMORY_TOO_LONG = 1, HALTED = 2, UNSPECIFIED = 3 };
-
-struct memory {
-    uint16_t *words;
-    size_t length;
-};
+enum { MEMORY_TOO_LONG = 1, HALTED = 2, UNSPECIFIED = 3, BAD_MAP = 14, NO_MAP = 255 };
+enum part { ROM = 0, RAM16 = 1, RAM8 = 2, EMPTY = 3 };
+enum { RANGE_WORDS = 3, MOST_RANGES = 16, LONGEST_MEMORY = 65536 };
 
 /* What a row says beside its effect: its cycles, and whether a request is heard after it. */
 struct charge {
@@ -24,12 +21,28 @@ static inline uint64_t answer(uint64_t kind, uint16_t cycles) { return kind << 3
 
 static inline bool bit(unsigned n, unsigned word) { return word >> n & 1; }
 
-/* A read past the end gives $FFFF, and a write there does nothing. */
-static inline uint16_t peek(struct memory m, uint16_t at) { return at < m.length ? m.words[at] : 0xFFFF; }
+/* The first range that has the address decides; one that none has is empty. */
+static inline enum part part_at(const struct plain_board *b, uint16_t at) {
+    for (const uint16_t *range = b->map, *end = b->map + b->map_length; range != end; range += RANGE_WORDS)
+        if (range[0] <= at && at <= range[1])
+            return (enum part)range[2];
+    return EMPTY;
+}
 
-static inline void poke(struct memory m, uint16_t at, uint16_t word) {
-    if (at < m.length)
-        m.words[at] = word;
+/* An empty word and one past the end read as $FFFF. */
+static inline uint16_t peek(const struct plain_board *b, uint16_t at) {
+    return at < b->length && part_at(b, at) != EMPTY ? b->words[at] : 0xFFFF;
+}
+
+/* 16-bit RAM takes the word, 8-bit RAM its low byte; anywhere else and past the end nothing happens. */
+static inline void poke(const struct plain_board *b, uint16_t at, uint16_t word) {
+    if (at >= b->length)
+        return;
+    switch (part_at(b, at)) {
+    case RAM16: b->words[at] = word; break;
+    case RAM8: b->words[at] = word & 0xFF; break;
+    default: break;
+    }
 }
 
 /* S from the bit given, Z from the whole word. */
@@ -76,27 +89,27 @@ static inline void operate(struct plain *p, unsigned w, uint16_t operand) {
 }
 
 /* 280 to 3FF. The pointer moves before the destination operand is taken. */
-static inline struct charge read_row(struct plain *p, struct memory m, unsigned w) {
+static inline struct charge read_row(struct plain *p, const struct plain_board *b, unsigned w) {
     unsigned s = w >> 3 & 7;
     uint16_t at = p->r[s], word;
     struct charge charge = heard(p->d ? 10 : 8);
     if (s == 0) {
-        word = peek(m, peek(m, p->r[R7]));
+        word = peek(b, peek(b, p->r[R7]));
         p->r[R7]++;
         charge = heard(10);
     } else if (s < R4) {
-        word = peek(m, at);
+        word = peek(b, at);
         if (p->d)
             word = (word & 0xFF) * 0x101;
     } else if (s == R6) {
         p->r[R6] = at - 1;
-        word = peek(m, at - 1);
+        word = peek(b, at - 1);
         charge = heard(11);
     } else {
-        word = peek(m, at);
+        word = peek(b, at);
         p->r[s] = at + 1;
         if (p->d) {
-            word = (word & 0xFF) | (peek(m, at + 1) & 0xFF) << 8;
+            word = (word & 0xFF) | (peek(b, at + 1) & 0xFF) << 8;
             p->r[s] = at + 2;
         }
     }
@@ -105,15 +118,15 @@ static inline struct charge read_row(struct plain *p, struct memory m, unsigned 
 }
 
 /* MVO, 240 to 27F. The value is taken before the pointer moves; a direct store of R7 has its two words behind it. */
-static inline struct charge store_row(struct plain *p, struct memory m, unsigned w) {
+static inline struct charge store_row(struct plain *p, const struct plain_board *b, unsigned w) {
     unsigned s = w >> 3 & 7, d = w & 7;
     if (s == 0) {
-        uint16_t at = peek(m, p->r[R7]);
+        uint16_t at = peek(b, p->r[R7]);
         p->r[R7]++;
-        poke(m, at, p->r[d]);
+        poke(b, at, p->r[d]);
         return unheard(11);
     }
-    poke(m, p->r[s], p->r[d]);
+    poke(b, p->r[s], p->r[d]);
     if (s >= R4)
         p->r[s]++;
     return unheard(9);
@@ -138,8 +151,8 @@ static inline bool taken(const struct plain *p, unsigned w, unsigned external) {
 }
 
 /* 200 to 23F. */
-static inline struct charge branch_row(struct plain *p, struct memory m, unsigned w, unsigned external) {
-    uint16_t operand = p->r[R7], displacement = peek(m, operand);
+static inline struct charge branch_row(struct plain *p, const struct plain_board *b, unsigned w, unsigned external) {
+    uint16_t operand = p->r[R7], displacement = peek(b, operand);
     p->r[R7] = operand + 1;
     if (!taken(p, w, external))
         return heard(7);
@@ -148,8 +161,8 @@ static inline struct charge branch_row(struct plain *p, struct memory m, unsigne
 }
 
 /* 004, whose second word is known to be specified. */
-static inline struct charge jump_row(struct plain *p, struct memory m) {
-    uint16_t second = peek(m, p->r[R7]), third = peek(m, p->r[R7] + 1), back = p->r[R7] + 2;
+static inline struct charge jump_row(struct plain *p, const struct plain_board *b) {
+    uint16_t second = peek(b, p->r[R7]), third = peek(b, p->r[R7] + 1), back = p->r[R7] + 2;
     unsigned field = second >> 8 & 3;
     if (field < 3)
         p->r[R4 + field] = back;
@@ -160,12 +173,12 @@ static inline struct charge jump_row(struct plain *p, struct memory m) {
 }
 
 /* 000 to 007. */
-static inline struct charge control_row(struct plain *p, struct memory m, unsigned w) {
+static inline struct charge control_row(struct plain *p, const struct plain_board *b, unsigned w) {
     switch (w) {
     case 0: p->halted = true; break;
     case 2: p->i = true; break;
     case 3: p->i = false; break;
-    case 4: return jump_row(p, m);
+    case 4: return jump_row(p, b);
     case 6: p->c = false; break;
     case 7: p->c = true; break;
     default: break; /* SDBD is looked after by the step; TCI does nothing */
@@ -232,55 +245,77 @@ static inline struct charge shift_row(struct plain *p, unsigned w) {
 }
 
 /* The instruction of opcode w, with R7 on the word after it. */
-static inline struct charge execute(struct plain *p, struct memory m, unsigned w, unsigned external) {
+static inline struct charge execute(struct plain *p, const struct plain_board *b, unsigned w, unsigned external) {
     if (w >= 0x280)
-        return read_row(p, m, w);
+        return read_row(p, b, w);
     if (w >= 0x240)
-        return store_row(p, m, w);
+        return store_row(p, b, w);
     if (w >= 0x200)
-        return branch_row(p, m, w, external);
+        return branch_row(p, b, w, external);
     if (w >= 0x080) {
         operate(p, w, p->r[w >> 3 & 7]);
         return heard(6);
     }
     if (w >= 0x040)
         return shift_row(p, w);
-    return w >= 0x008 ? single_row(p, w) : control_row(p, m, w);
+    return w >= 0x008 ? single_row(p, w) : control_row(p, b, w);
 }
 
 /* A jump whose second word ends in bits 3, or a stack read under D. */
-static inline bool is_unspecified(struct memory m, uint16_t pc, unsigned w, bool d) {
+static inline bool is_unspecified(const struct plain_board *b, uint16_t pc, unsigned w, bool d) {
     if (w == 4)
-        return (peek(m, pc + 1) & 3) == 3;
+        return (peek(b, pc + 1) & 3) == 3;
     return d && w >= 0x280 && (w >> 3 & 7) == R6;
 }
 
-uint64_t plain_step(struct plain *p, uint16_t *mem, size_t length, uint32_t lines) {
-    struct memory m = {mem, length};
-    if (length > 65536)
+/* Each of the first 16 ranges has a kind, whether it decides or not. */
+static bool is_map(const struct plain_board *b) {
+    for (size_t i = 0; i + RANGE_WORDS <= b->map_length && i < MOST_RANGES * RANGE_WORDS; i += RANGE_WORDS)
+        if (b->map[i + 2] > RAM8)
+            return false;
+    return b->map_length % RANGE_WORDS == 0;
+}
+
+static bool is_bad_map(const struct plain_board *b) {
+    if (b->map_length > MOST_RANGES * RANGE_WORDS)
+        return true;
+    for (size_t i = 0; i < b->map_length; i += RANGE_WORDS)
+        if (b->map[i] > b->map[i + 1])
+            return true;
+    return false;
+}
+
+uint64_t plain_refusal(const struct plain_board *b) {
+    if (!is_map(b))
+        return NO_MAP;
+    if (b->length > LONGEST_MEMORY)
         return MEMORY_TOO_LONG;
+    return is_bad_map(b) ? BAD_MAP : 0;
+}
+
+uint64_t plain_step(struct plain *p, const struct plain_board *b, uint32_t lines) {
     if (p->halted)
         return HALTED;
     bool intrm = bit(0, lines), busrq = bit(1, lines);
     bool pending = !intrm && (p->pending || p->level);
     bool grants = p->ready && !busrq, interrupts = p->ready && p->i && pending;
     uint16_t pc = p->r[R7];
-    unsigned w = peek(m, pc) & 1023;
-    if (!grants && !interrupts && is_unspecified(m, pc, w, p->d))
+    unsigned w = peek(b, pc) & 1023;
+    if (!grants && !interrupts && is_unspecified(b, pc, w, p->d))
         return UNSPECIFIED;
     p->pending = pending;
     p->level = intrm;
     if (grants)
         return answer(GRANTED, 1);
     if (interrupts) {
-        poke(m, p->r[R6], pc);
+        poke(b, p->r[R6], pc);
         p->r[R6]++;
         p->r[R7] = 0x1004;
         p->pending = p->ready = p->d = false;
         return answer(INTERRUPTED, 12);
     }
     p->r[R7] = pc + 1;
-    struct charge charge = execute(p, m, w, lines >> 16);
+    struct charge charge = execute(p, b, w, lines >> 16);
     p->d = w == 1;
     p->ready = charge.heard;
     return answer(EXECUTED, charge.cycles);

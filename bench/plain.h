@@ -12,7 +12,19 @@ struct plain {
     bool s, z, o, c, i, d, halted, ready, level, pending;
 };
 
-/* One step, answered as cp1610_step answers: a refusal's number, or the kind in the high half and the cycles in the low one. */
-uint64_t plain_step(struct plain *p, uint16_t *mem, size_t length, uint32_t lines);
+/* The lent words and the board's map, as cp1610_step takes them. */
+struct plain_board {
+    uint16_t *words;
+    size_t length;
+    const uint16_t *map;
+    size_t map_length;
+};
+
+/* What every call with a map tests first: 255 for a map that is none, 1, 14; 0 where it is refused by none of these. */
+uint64_t plain_refusal(const struct plain_board *b);
+
+/* One step on a board that is not refused, answered as cp1610_step answers: a refusal's number, or the kind in the high half and the
+ * cycles in the low one. */
+uint64_t plain_step(struct plain *p, const struct plain_board *b, uint32_t lines);
 
 #endif

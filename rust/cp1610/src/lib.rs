@@ -2,21 +2,23 @@
 //!
 #![cfg_attr(feature = "library", doc = "```")]
 #![cfg_attr(not(feature = "library"), doc = "```ignore")]
-//! use cp1610::{Lines, Machine, Register};
+//! use cp1610::{Board, Lines, Machine, Range, Register};
 //!
 //! let mut memory = vec![0; 65_536];
 //! memory[0x1000..0x1002].copy_from_slice(cp1610::assemble(b"MVII #$1234,R0", false)?.words());
+//! let board = Board::new(&[Range::ram16(0x0000, 0x0FFF), Range::rom(0x1000, 0x1FFF)]);
 //! let mut machine = Machine::reset();
-//! let step = machine.step(&mut memory, Lines::QUIET)?;
+//! let step = machine.step(&mut memory, &board, Lines::QUIET)?;
 //! assert_eq!((machine.register(Register::R0), machine.register(Register::R7), step.cycles), (0x1234, 0x1002, 8));
 //!
-//! let frame = machine.run(&mut memory, Lines::QUIET, 14_934)?;
+//! let frame = machine.run(&mut memory, &board, Lines::QUIET, 14_934)?;
 //! assert_eq!(frame.cause, cp1610::Cause::Halted); // the next word is 0, which is HLT
 //! # Ok::<(), cp1610::Refusal>(())
 //! ```
 //!
-//! A memory is a slice of up to 65,536 words; what lies past its end reads as $FFFF. A refused call alters nothing: not the machine,
-//! not memory, not a room. The C interface's page is `docs/C-INTERFACE.md`.
+//! A memory is a slice of up to 65,536 words; what lies past its end reads as $FFFF. A [`Board`] says which of its words are ROM and which
+//! are RAM; [`Board::all_ram`] is memory as it is lent. A refused call alters nothing: not the machine, not memory, not a room. The C
+//! interface's page is `docs/C-INTERFACE.md`.
 //!
 //! # Panics
 //!
@@ -31,6 +33,7 @@
 #![warn(clippy::missing_errors_doc, clippy::missing_panics_doc)]
 
 mod answers;
+mod board;
 #[cfg(feature = "library")]
 mod library;
 mod lines;
@@ -38,6 +41,7 @@ mod refusal;
 mod state;
 
 pub use answers::{Assembled, Cause, Event, Listed, Longest, Region, Run, Step, Wait};
+pub use board::{Board, Kind, Range};
 #[cfg(feature = "library")]
 pub use library::{Machine, assemble, calls, list, load, region, wait, write};
 pub use lines::Lines;
@@ -46,6 +50,9 @@ pub use state::{Mark, Register, STATE_WORDS, StateWords};
 
 /// The most words that a memory may have.
 pub const LONGEST_MEMORY: usize = 65_536;
+
+/// The most ranges that a board may have.
+pub const MOST_RANGES: usize = 16;
 
 /// The most cycles that a run may be given.
 pub const HIGHEST_BUDGET: u32 = 1_000_000;

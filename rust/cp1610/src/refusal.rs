@@ -1,4 +1,4 @@
-//! Document 01's table of refusals.
+//! Document 01's table of refusals, with the numbers that document 02 adds to it.
 
 use std::error::Error;
 use std::fmt;
@@ -34,11 +34,13 @@ pub enum Refusal {
     SumDiffers = 12,
     /// An image room that is too small.
     ImageRoomTooSmall = 13,
+    /// A board of more than 16 ranges, or with a range whose first address is above its last.
+    BadMap = 14,
 }
 
 impl Refusal {
     /// Every refusal, number 1 first.
-    const TABLE: [Refusal; 13] = [
+    const TABLE: [Refusal; 14] = [
         Refusal::MemoryTooLong,
         Refusal::Halted,
         Refusal::Unspecified,
@@ -52,6 +54,7 @@ impl Refusal {
         Refusal::PastMemory,
         Refusal::SumDiffers,
         Refusal::ImageRoomTooSmall,
+        Refusal::BadMap,
     ];
 
     /// Its number in document 01's table.
@@ -80,6 +83,7 @@ impl Refusal {
             Refusal::PastMemory => "a record or region is past the memory",
             Refusal::SumDiffers => "the image file's sum differs",
             Refusal::ImageRoomTooSmall => "the image room is too small",
+            Refusal::BadMap => "the board has more than 16 ranges, or one with its first address above its last",
         }
     }
 }
@@ -102,7 +106,7 @@ mod tests {
             assert_eq!(usize::from(refusal.number()), place + 1);
             assert_eq!(Refusal::from_number(refusal.number()), Some(refusal));
         }
-        for number in [0, 14, 255] {
+        for number in [0, 15, 255] {
             assert_eq!(Refusal::from_number(number), None);
         }
     }

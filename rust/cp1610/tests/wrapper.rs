@@ -1,7 +1,7 @@
 //! What the wrapper adds to the C interface.
 
-use cp1610::calls::{self, SHORT_BUFFER};
-use cp1610::{Cause, Event, Lines, Machine, Mark, Refusal, Register, STATE_WORDS};
+use cp1610::calls::{self, NO_MAP, SHORT_BUFFER};
+use cp1610::{Board, Cause, Event, Kind, Lines, Machine, Mark, Range, Refusal, Register, STATE_WORDS};
 
 #[test]
 fn a_machine_shows_and_takes_registers_and_marks() {
@@ -25,12 +25,13 @@ fn lines_are_passed_on() {
     let at_0 = Machine::from_words(&[0; STATE_WORDS]);
     for (external, next) in [(0, 2), (1, 7)] {
         let mut machine = at_0.clone();
-        machine.step(&mut memory, Lines { external, ..Lines::QUIET }).expect("BEXT is executed");
+        let lines = Lines { external, ..Lines::QUIET };
+        machine.step(&mut memory, &Board::all_ram(), lines).expect("BEXT is executed");
         assert_eq!(machine.register(Register::R7), next);
     }
     let mut ready = at_0.clone();
     ready.set(Mark::Ready, true);
-    let granted = ready.step(&mut memory, Lines { busrq: false, ..Lines::QUIET });
+    let granted = ready.step(&mut memory, &Board::all_ram(), Lines { busrq: false, ..Lines::QUIET });
     assert_eq!(granted.map(|step| step.event), Ok(Event::Granted));
 }
 
@@ -38,11 +39,63 @@ fn lines_are_passed_on() {
 fn a_refusal_is_an_error_with_its_number() {
     let mut memory = [0x000];
     let mut machine = Machine::from_words(&[0; STATE_WORDS]);
-    assert_eq!(machine.run(&mut memory, Lines::QUIET, 100).map(|run| run.cause), Ok(Cause::Halted));
-    let refused = machine.step(&mut memory, Lines::QUIET).expect_err("the machine is halted");
+    let board = Board::all_ram();
+    assert_eq!(machine.run(&mut memory, &board, Lines::QUIET, 100).map(|run| run.cause), Ok(Cause::Halted));
+    let refused = machine.step(&mut memory, &board, Lines::QUIET).expect_err("the machine is halted");
     assert_eq!((refused, refused.number()), (Refusal::Halted, 2));
     assert_eq!(refused.to_string(), "refused by 2: the machine is halted");
 }
+
+/// MVO R0,$0005 at 0, under each kind of word at 5 and with none there.
+#[test]
+fn a_board_says_what_a_store_leaves() {
+    let code = Range::rom(0, 4);
+    let at_5 = |kind| Range { first: 5, last: 5, kind };
+    for (ranges, left) in [
+        (vec![code, at_5(Kind::Rom)], 0xABCD),
+        (vec![code, at_5(Kind::Ram16)], 0x1234),
+        (vec![code, at_5(Kind::Ram8)], 0x0034),
+        (vec![code, at_5(Kind::Ram8), at_5(Kind::Ram16)], 0x0034),
+        (vec![code], 0xABCD),
+    ] {
+        let mut memory = [0x240, 0x0005, 0, 0, 0, 0xABCD];
+        let mut machine = Machine::from_words(&[0; STATE_WORDS]);
+        machine.set_register(Register::R0, 0x1234);
+        machine.step(&mut memory, &Board::new(&ranges), Lines::QUIET).expect("MVO is executed");
+        assert_eq!(memory[5], left, "{ranges:?}");
+    }
+}
+
+/// Board and map are two forms of the same ranges.
+#[test]
+fn a_board_has_the_ranges_that_it_was_made_from() {
+    let ranges = [Range::rom(0x5000, 0x6FFF), Range::ram16(0, 0), Range::ram8(3, 2)];
+    let board: Board = ranges.into_iter().collect();
+    assert_eq!(board, Board::new(&ranges));
+    assert!(board.ranges().eq(ranges));
+    assert_eq!(board.map(), [0x5000, 0x6FFF, 0, 0, 0, 1, 3, 2, 2]);
+    assert_eq!(Board::all_ram().map(), [0, 0xFFFF, 1]);
+    assert_eq!(Board::new(&[]).map(), []);
+}
+
+/// Also where the bad range never decides.
+#[test]
+fn a_bad_board_is_refused_where_it_is_lent() {
+    let (mut memory, mut text) = ([0], [0; 16]);
+    for ranges in [vec![Range::ALL_RAM; 17], vec![Range::ALL_RAM, Range::rom(1, 0)]] {
+        let board = Board::new(&ranges);
+        let mut machine = Machine::reset();
+        assert_eq!(machine.step(&mut memory, &board, Lines::QUIET), Err(Refusal::BadMap));
+        assert_eq!(machine.run(&mut memory, &board, Lines::QUIET, 1), Err(Refusal::BadMap));
+        assert_eq!(cp1610::wait(&memory, &board, 0, 0), Err(Refusal::BadMap));
+        assert_eq!(cp1610::region(&memory, &board, 0, 0, 0), Err(Refusal::BadMap));
+        assert_eq!(cp1610::list(&memory, &board, 0, false, &mut text), Err(Refusal::BadMap));
+    }
+    let most = Board::new(&[Range::ALL_RAM; cp1610::MOST_RANGES]);
+    assert!(cp1610::wait(&memory, &most, 0, 0).is_ok());
+}
+
+const ALL_RAM: &[u16] = &[0, 0xFFFF, 1];
 
 /// Short buffers are refused before all else, here before a memory that is too long.
 #[test]
@@ -50,11 +103,32 @@ fn short_buffers_are_refused_by_255() {
     let mut long = vec![0; 65_537];
     let (mut state, mut out) = ([9; STATE_WORDS], [9; 5]);
     assert_eq!(calls::reset(&mut state[..17]), SHORT_BUFFER);
-    assert_eq!(calls::step(&mut state[..17], &mut long, 3), SHORT_BUFFER);
-    assert_eq!(calls::run(&mut state[..17], &mut long, 3, 0, &mut out), SHORT_BUFFER);
-    assert_eq!(calls::run(&mut state, &mut long, 3, 0, &mut out[..2]), SHORT_BUFFER);
-    assert_eq!(calls::region(&long, 1, 0, 0, &mut out[..4]), SHORT_BUFFER);
-    assert_eq!(calls::list(&long, 0, 0, &mut [], &mut out[..2]), SHORT_BUFFER);
+    assert_eq!(calls::step(&mut state[..17], &mut long, ALL_RAM, 3), SHORT_BUFFER);
+    assert_eq!(calls::run(&mut state[..17], &mut long, ALL_RAM, 3, 0, &mut out), SHORT_BUFFER);
+    assert_eq!(calls::run(&mut state, &mut long, ALL_RAM, 3, 0, &mut out[..2]), SHORT_BUFFER);
+    assert_eq!(calls::region(&long, ALL_RAM, 1, 0, 0, &mut out[..4]), SHORT_BUFFER);
+    assert_eq!(calls::list(&long, ALL_RAM, 0, 0, &mut [], &mut out[..2]), SHORT_BUFFER);
     assert_eq!(calls::assemble(b"no line", 0, &mut state[..2]), SHORT_BUFFER);
+    assert_eq!((state, out), ([9; STATE_WORDS], [9; 5]));
+}
+
+/// So is a map that is none; a kind above 2 past the 16th range is not looked at, and the map is one of 17 ranges.
+#[test]
+fn no_map_is_refused_by_255() {
+    let mut long = vec![0; 65_537];
+    let (mut state, mut out) = ([9; STATE_WORDS], [9; 5]);
+    for map in [&[0][..], &[0, 0xFFFF], &[0, 0xFFFF, 1, 0], &[0, 0xFFFF, 3], &[0, 0xFFFF, 1, 0, 0, 0xFFFF]] {
+        assert_eq!(calls::step(&mut state, &mut long, map, 3), NO_MAP);
+        assert_eq!(calls::run(&mut state, &mut long, map, 3, 0, &mut out), NO_MAP);
+        assert_eq!(calls::wait(&long, map, 0, 0xFFFF), NO_MAP);
+        assert_eq!(calls::region(&long, map, 1, 0, 0, &mut out), NO_MAP);
+        assert_eq!(calls::list(&long, map, 0, 0, &mut [], &mut out), NO_MAP);
+    }
+    let mut map = ALL_RAM.repeat(17);
+    map[16 * 3 + 2] = 3;
+    assert_eq!(calls::wait(&long, &map, 0, 0), Refusal::MemoryTooLong.number().into());
+    assert_eq!(calls::wait(&[], &map, 0, 0), Refusal::BadMap.number().into());
+    map[15 * 3 + 2] = 3;
+    assert_eq!(calls::wait(&[], &map, 0, 0), NO_MAP);
     assert_eq!((state, out), ([9; STATE_WORDS], [9; 5]));
 }

@@ -8,7 +8,7 @@ mod processor;
 
 use crate::kit::Kit;
 use crate::rows::{self, Case, Fields};
-use cp1610::{LONGEST_MEMORY, Refusal};
+use cp1610::{LONGEST_MEMORY, Range, Refusal};
 use std::collections::BTreeMap;
 use std::fmt::Debug;
 
@@ -69,6 +69,12 @@ fn memory(before: &mut Fields) -> Result<Vec<u16>, String> {
     Ok(memory)
 }
 
+/// The board that is lent; all-RAM where the row has no map.
+fn board<K: Kit>(before: &mut Fields) -> Result<K::Board, String> {
+    let ranges = before.read_as("map", rows::map)?;
+    Ok(K::board(&ranges.unwrap_or(vec![Range::ALL_RAM])))
+}
+
 fn put_words(memory: &mut [u16], fields: &mut Fields) -> Result<(), String> {
     for (at, word) in fields.words()? {
         *memory.get_mut(at).ok_or(format!("{at:04X} is past the memory"))? = word;
@@ -94,7 +100,7 @@ mod tests {
     use super::run_all;
     use crate::kit::{Handwritten, Proved};
 
-    /// A case of each kind, and how often it stands there.
+    /// A case of each kind.
     const GOOD: &str = "\
 step ADD@ R4,R4 is R4 + 1 + word
 before flags=SZOC 0100=02E4 1414=0005
@@ -162,19 +168,56 @@ after answer=loaded records=2
         ("records=2", "records=1"),
     ];
 
+    /// A case of each kind that takes a map.
+    const MAPPED: &str = "\
+step a store to 8-bit RAM
+before map=0100-0100:rom,1414-1414:ram8,1400-14FF:ram16 r0=ABCD 0100=0260
+after r4=1415 r7=0101 1414=00CD answer=executed cycles=9
+run a store to ROM
+before budget=9 map=0000-FFFF:rom 0100=0260
+after r4=1415 r7=0101 answer=budget steps=1 cycles=9
+wait a bad map
+before map=0000-FFFF:ram16,0001-0000:rom
+after answer=refused number=14
+region no word is there
+before map=none last=0003 0000=0006
+after answer=found longest=8 start=0000
+list an empty word
+before map=0001-FFFF:rom 0000=0034 0001=1234
+after answer=listed words=2 text=XORI #$1234,R7
+";
+
+    /// As above.
+    const WRONG_MAPPED: [(&str, &str); 9] = [
+        ("1414-1414:ram8,", ""),
+        ("1414-1414:ram8,", "1414-1414:ram,"),
+        ("1414-1414:ram8,1400-14FF:ram16", "1400-14FF:ram16,1414-1414:ram8"),
+        ("map=0000-FFFF:rom ", ""),
+        ("map=0000-FFFF:rom ", "map=0000-FFFF:ram16 "),
+        ("0001-0000:rom", "0000-0000:rom"),
+        ("map=none", "map="),
+        ("map=none ", ""),
+        ("map=0001-FFFF:rom", "map=0000-FFFF:rom"),
+    ];
+
     #[test]
     fn good_cases_pass() {
-        for counts in [run_all::<Proved>(GOOD), run_all::<Handwritten>(GOOD)] {
-            let counts = counts.expect("each case is right");
-            assert!(counts.len() == 9 && counts.values().all(|count| *count == 1), "{counts:?}");
+        for (file, kinds) in [(GOOD, 9), (MAPPED, 5)] {
+            for counts in [run_all::<Proved>(file), run_all::<Handwritten>(file)] {
+                let counts = counts.expect("each case is right");
+                assert!(counts.len() == kinds && counts.values().all(|count| *count == 1), "{counts:?}");
+            }
         }
     }
 
     #[test]
     fn wrong_cases_fail() {
-        for (right, wrong) in WRONG {
-            assert_eq!(GOOD.matches(right).count(), 1, "{right}");
-            let file = GOOD.replace(right, wrong);
+        let all = [(GOOD, &WRONG[..]), (MAPPED, &WRONG_MAPPED)];
+        for (file, (right, wrong)) in
+            all.into_iter().flat_map(|(file, pairs)| pairs.iter().map(move |pair| (file, pair)))
+        {
+            assert_eq!(file.matches(right).count(), 1, "{right}");
+            let file = file.replace(right, wrong);
             assert!(run_all::<Proved>(&file).is_err(), "{wrong} in place of {right}");
             assert!(run_all::<Handwritten>(&file).is_err(), "{wrong} in place of {right}");
         }

@@ -1,11 +1,14 @@
 //! A kit as a type, for tests and measurements that are run with either of the two.
 
-use cp1610::{Assembled, Lines, Listed, Refusal, Region, Run, StateWords, Step, Wait};
+use cp1610::{Assembled, Lines, Listed, Range, Refusal, Region, Run, StateWords, Step, Wait};
 
 /// The calls of a board kit. The refusals are document 01's, as the crate `cp1610` says at each of its functions.
 pub trait Kit {
     /// A machine of this kit.
     type Machine;
+
+    /// A board of this kit.
+    type Board;
 
     /// What the kit is called in tables.
     const NAME: &'static str;
@@ -19,20 +22,34 @@ pub trait Kit {
     /// The words that stand for this machine.
     fn to_words(machine: &Self::Machine) -> StateWords;
 
+    /// The board of these ranges, good or bad.
+    fn board(ranges: &[Range]) -> Self::Board;
+
     /// One step.
-    fn step(machine: &mut Self::Machine, memory: &mut [u16], lines: Lines) -> Result<Step, Refusal>;
+    fn step(
+        machine: &mut Self::Machine,
+        memory: &mut [u16],
+        board: &Self::Board,
+        lines: Lines,
+    ) -> Result<Step, Refusal>;
 
     /// Steps while their cycles are below the budget.
-    fn run(machine: &mut Self::Machine, memory: &mut [u16], lines: Lines, budget: u32) -> Result<Run, Refusal>;
+    fn run(
+        machine: &mut Self::Machine,
+        memory: &mut [u16],
+        board: &Self::Board,
+        lines: Lines,
+        budget: u32,
+    ) -> Result<Run, Refusal>;
 
     /// How long a request waits from an address.
-    fn wait(memory: &[u16], address: u16, limit: u16) -> Result<Wait, Refusal>;
+    fn wait(memory: &[u16], board: &Self::Board, address: u16, limit: u16) -> Result<Wait, Refusal>;
 
     /// The longest wait of a region, and its lowest address that is over the limit.
-    fn region(memory: &[u16], first: u16, last: u16, limit: u16) -> Result<Region, Refusal>;
+    fn region(memory: &[u16], board: &Self::Board, first: u16, last: u16, limit: u16) -> Result<Region, Refusal>;
 
     /// The line of an instruction.
-    fn list(memory: &[u16], address: u16, d: bool, text: &mut [u8]) -> Result<Listed, Refusal>;
+    fn list(memory: &[u16], board: &Self::Board, address: u16, d: bool, text: &mut [u8]) -> Result<Listed, Refusal>;
 
     /// The words of a line.
     fn assemble(line: &[u8], d: bool) -> Result<Assembled, Refusal>;
@@ -53,6 +70,7 @@ macro_rules! kit_of_crate {
 
         impl Kit for $kit {
             type Machine = $calls::Machine;
+            type Board = $calls::Board;
 
             const NAME: &'static str = $name;
 
@@ -68,29 +86,56 @@ macro_rules! kit_of_crate {
                 machine.to_words()
             }
 
-            #[inline]
-            fn step(machine: &mut Self::Machine, memory: &mut [u16], lines: Lines) -> Result<Step, Refusal> {
-                machine.step(memory, lines)
+            fn board(ranges: &[Range]) -> Self::Board {
+                $calls::Board::new(ranges)
             }
 
             #[inline]
-            fn run(machine: &mut Self::Machine, memory: &mut [u16], lines: Lines, budget: u32) -> Result<Run, Refusal> {
-                machine.run(memory, lines, budget)
+            fn step(
+                machine: &mut Self::Machine,
+                memory: &mut [u16],
+                board: &Self::Board,
+                lines: Lines,
+            ) -> Result<Step, Refusal> {
+                machine.step(memory, board, lines)
             }
 
             #[inline]
-            fn wait(memory: &[u16], address: u16, limit: u16) -> Result<Wait, Refusal> {
-                $calls::wait(memory, address, limit)
+            fn run(
+                machine: &mut Self::Machine,
+                memory: &mut [u16],
+                board: &Self::Board,
+                lines: Lines,
+                budget: u32,
+            ) -> Result<Run, Refusal> {
+                machine.run(memory, board, lines, budget)
             }
 
             #[inline]
-            fn region(memory: &[u16], first: u16, last: u16, limit: u16) -> Result<Region, Refusal> {
-                $calls::region(memory, first, last, limit)
+            fn wait(memory: &[u16], board: &Self::Board, address: u16, limit: u16) -> Result<Wait, Refusal> {
+                $calls::wait(memory, board, address, limit)
             }
 
             #[inline]
-            fn list(memory: &[u16], address: u16, d: bool, text: &mut [u8]) -> Result<Listed, Refusal> {
-                $calls::list(memory, address, d, text)
+            fn region(
+                memory: &[u16],
+                board: &Self::Board,
+                first: u16,
+                last: u16,
+                limit: u16,
+            ) -> Result<Region, Refusal> {
+                $calls::region(memory, board, first, last, limit)
+            }
+
+            #[inline]
+            fn list(
+                memory: &[u16],
+                board: &Self::Board,
+                address: u16,
+                d: bool,
+                text: &mut [u8],
+            ) -> Result<Listed, Refusal> {
+                $calls::list(memory, board, address, d, text)
             }
 
             #[inline]

@@ -7,6 +7,7 @@ mod image_calls;
 mod kit;
 mod listing_calls;
 mod machine_calls;
+mod map;
 mod meter_calls;
 mod random;
 mod reference;

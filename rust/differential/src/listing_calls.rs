@@ -6,6 +6,8 @@ use crate::scene::{DISPLACEMENTS, Scene, any_branch, is_far_branch};
 use crate::tally::{Occasion, Tally};
 use crate::twin::Twin;
 use cp1610::{LINE_WORDS, TEXT_ROOM, calls};
+use handwritten::Board;
+use std::sync::LazyLock;
 
 const LIST_WORDS: usize = 3;
 const WORD_COUNTS: [&str; LINE_WORDS] = ["1 word", "2 words", "3 words"];
@@ -23,20 +25,21 @@ fn any_d(random: &mut Random) -> u8 {
 }
 
 pub(crate) fn list(random: &mut Random, scene: &mut Scene, tally: &mut Tally) {
-    let (address, d) = (scene.address(random), any_d(random));
+    let (address, d, map) = (scene.address(random), any_d(random), scene.lent_map(random, tally));
     let (mut text, mut out) = (Twin::room(random, TEXT_ROOM), Twin::room(random, LIST_WORDS));
-    let ours = calls::list(scene.memory.ours(), address, d, text.ours(), out.ours());
-    let theirs = reference::list(scene.memory.theirs(), address, d, text.theirs(), out.theirs());
-    let word = scene.word_at(address);
-    let call = format!("list of {word:04X} at {address:04X} under D {d}");
+    let ours = calls::list(scene.memory.ours(), map.words(), address, d, text.ours(), out.ours());
+    let theirs = reference::list(scene.memory.theirs(), map.board(), address, d, text.theirs(), out.theirs());
+    let word = scene.word_at(&map, address);
+    let call = format!("list of {word:04X} at {address:04X} under D {d} {map}");
     assert_eq!(ours, theirs, "{call}");
     text.assert_equal(&call, "text");
     out.assert_equal(&call, "out");
     scene.memory.assert_equal(&call, "memory");
+    map.assert_equal(&call);
     tally.count("list", ours, || WORD_COUNTS[out.items()[1] as usize - 1]);
     if ours >> 32 != 0 {
         tally.count_listed(word, d != 0);
-        if scene.is_far_branch(address) {
+        if scene.is_far_branch(&map, address) {
             tally.count_occasion(Occasion::FarBranchListed);
         }
     }
@@ -54,12 +57,14 @@ fn any_words(random: &mut Random) -> [u16; LINE_WORDS] {
     }
 }
 
+static ALL_RAM: LazyLock<Board> = LazyLock::new(Board::all_ram);
+
 /// The line of random words, as the hand-written lister has it.
 fn any_listed(random: &mut Random) -> Vec<u8> {
     let words = any_words(random);
     let mut text = vec![0; TEXT_ROOM];
-    let listed =
-        handwritten::list(&words, 0, random.one_in(2), &mut text).expect("memory and room are as they have to be");
+    let listed = handwritten::list(&words, &ALL_RAM, 0, random.one_in(2), &mut text)
+        .expect("memory and room are as they have to be");
     text.truncate(listed.length);
     text
 }

@@ -1,8 +1,9 @@
-//! The C interface, made of the hand-written kit: what each call has to answer and to leave, as `docs/C-INTERFACE.md` says.
+//! The C interface, made of the hand-written kit: what each call has to answer and to leave, as `docs/C-INTERFACE.md` says. In place
+//! of a map a call takes the board that the map stands for, or none where it is no map.
 
-use cp1610::calls::SHORT_BUFFER;
+use cp1610::calls::{NO_MAP, SHORT_BUFFER};
 use cp1610::{LINE_WORDS, Lines, Refusal, STATE_WORDS, StateWords, Wait};
-use handwritten::Machine;
+use handwritten::{Board, Machine};
 
 const DONE: u32 = 1;
 
@@ -34,26 +35,36 @@ fn on_machine<T>(words: &mut StateWords, call: impl FnOnce(&mut Machine) -> Resu
     Ok(answer)
 }
 
-pub fn step(state: &mut [u16], memory: &mut [u16], lines: u32) -> u64 {
-    let Some(words) = state.first_chunk_mut() else {
+pub fn step(state: &mut [u16], memory: &mut [u16], board: Option<&Board>, lines: u32) -> u64 {
+    let (Some(words), Some(board)) = (state.first_chunk_mut(), board) else {
         return SHORT_BUFFER;
     };
-    on_machine(words, |machine| machine.step(memory, lines_of(lines)))
+    on_machine(words, |machine| machine.step(memory, board, lines_of(lines)))
         .map_or_else(refused, |step| success(step.event as u32, step.cycles))
 }
 
-pub fn run(state: &mut [u16], memory: &mut [u16], lines: u32, budget: u32, out: &mut [u32]) -> u64 {
-    let (Some(words), Some(out)) = (state.first_chunk_mut(), out.first_chunk_mut()) else {
+pub fn run(
+    state: &mut [u16],
+    memory: &mut [u16],
+    board: Option<&Board>,
+    lines: u32,
+    budget: u32,
+    out: &mut [u32],
+) -> u64 {
+    let (Some(words), Some(board), Some(out)) = (state.first_chunk_mut(), board, out.first_chunk_mut()) else {
         return SHORT_BUFFER;
     };
-    on_machine(words, |machine| machine.run(memory, lines_of(lines), budget)).map_or_else(refused, |run| {
+    on_machine(words, |machine| machine.run(memory, board, lines_of(lines), budget)).map_or_else(refused, |run| {
         *out = [run.steps, run.cycles, run.cause as u32];
         success(DONE, 0)
     })
 }
 
-pub fn wait(memory: &[u16], address: u16, limit: u16) -> u64 {
-    match handwritten::wait(memory, address, limit) {
+pub fn wait(memory: &[u16], board: Option<&Board>, address: u16, limit: u16) -> u64 {
+    let Some(board) = board else {
+        return NO_MAP;
+    };
+    match handwritten::wait(memory, board, address, limit) {
         Ok(Wait::Wait { cycles }) => success(1, cycles.into()),
         Ok(Wait::Over) => success(2, 0),
         Ok(Wait::Halts) => success(3, 0),
@@ -63,11 +74,11 @@ pub fn wait(memory: &[u16], address: u16, limit: u16) -> u64 {
     }
 }
 
-pub fn region(memory: &[u16], first: u16, last: u16, limit: u16, out: &mut [u32]) -> u64 {
-    let Some(out) = out.first_chunk_mut() else {
+pub fn region(memory: &[u16], board: Option<&Board>, first: u16, last: u16, limit: u16, out: &mut [u32]) -> u64 {
+    let (Some(board), Some(out)) = (board, out.first_chunk_mut()) else {
         return SHORT_BUFFER;
     };
-    match handwritten::region(memory, first, last, limit) {
+    match handwritten::region(memory, board, first, last, limit) {
         Ok(region) => {
             let (cycles, start) = region.longest.map_or((0, 0), |longest| (longest.cycles, longest.start));
             *out = [
@@ -83,11 +94,11 @@ pub fn region(memory: &[u16], first: u16, last: u16, limit: u16, out: &mut [u32]
     }
 }
 
-pub fn list(memory: &[u16], address: u16, d: u8, text: &mut [u8], out: &mut [u32]) -> u64 {
-    let Some(out) = out.first_chunk_mut() else {
+pub fn list(memory: &[u16], board: Option<&Board>, address: u16, d: u8, text: &mut [u8], out: &mut [u32]) -> u64 {
+    let (Some(board), Some(out)) = (board, out.first_chunk_mut()) else {
         return SHORT_BUFFER;
     };
-    match handwritten::list(memory, address, d != 0, text) {
+    match handwritten::list(memory, board, address, d != 0, text) {
         Ok(listed) => {
             *out = [listed.length as u32, listed.words as u32, listed.next_d.into()];
             success(DONE, 0)

@@ -7,9 +7,12 @@
 //! after flags=- r4=141A r7=0101 answer=executed cycles=8
 //! ```
 //!
+//! A board's map is a field too: `map=0000-00EF:ram8,5000-6FFF:rom`, the range that decides first at the front, or `map=none`.
+//!
 //! What is left out has its default; what is not understood is an error. So each reader takes the fields that it knows from a row, and
 //! [`Fields::end`] finds what nobody took.
 
+use cp1610::{Kind, Range};
 use std::collections::BTreeMap;
 use std::str::FromStr;
 
@@ -205,6 +208,24 @@ pub fn list(value: &str) -> Option<Vec<u16>> {
     value.split(',').map(word).collect()
 }
 
+/// Ranges with commas between them, or `none`. Any ranges are taken, good or bad.
+pub fn map(value: &str) -> Option<Vec<Range>> {
+    if value == "none" { Some(Vec::new()) } else { value.split(',').map(range).collect() }
+}
+
+/// `FIRST-LAST:KIND`.
+fn range(value: &str) -> Option<Range> {
+    let (addresses, kind) = value.split_once(':')?;
+    let (first, last) = addresses.split_once('-')?;
+    let kind = match kind {
+        "rom" => Kind::Rom,
+        "ram16" => Kind::Ram16,
+        "ram8" => Kind::Ram8,
+        _ => return None,
+    };
+    Some(Range { first: word(first)?, last: word(last)?, kind })
+}
+
 /// Bytes of two hexadecimal digits each, or none.
 pub fn bytes(value: &str) -> Option<Vec<u8>> {
     let byte = |digits: &[u8]| match digits {
@@ -230,7 +251,8 @@ pub fn bit(value: &str) -> Option<bool> {
 
 #[cfg(test)]
 mod tests {
-    use super::{Fields, bytes, cases};
+    use super::{Fields, bytes, cases, map};
+    use cp1610::Range;
 
     #[test]
     fn a_case_is_three_rows() {
@@ -247,6 +269,16 @@ mod tests {
         );
         assert_eq!((after.word("address", 7), after.bit("d", true)), (Ok(7), Ok(true)));
         assert_eq!((before.end(), after.end()), (Ok(()), Ok(())));
+    }
+
+    #[test]
+    fn a_map_is_a_list_of_ranges() {
+        let ranges = vec![Range::ram8(0, 0xEF), Range::ram16(0x1FF, 0x100), Range::rom(0x5000, 0x6FFF)];
+        assert_eq!(map("0000-00EF:ram8,01FF-0100:ram16,5000-6FFF:rom"), Some(ranges));
+        assert_eq!(map("none"), Some(vec![]));
+        for value in ["", "0000-00EF", "0000:ram8", "0000-00EF:RAM8", "0-00EF:rom", "0000-00ef:rom", "0000-00EF:rom,"] {
+            assert_eq!(map(value), None, "{value}");
+        }
     }
 
     #[test]

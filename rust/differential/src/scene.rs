@@ -1,12 +1,16 @@
-//! A memory and a machine that a number of calls are made on.
+//! A memory, a map and a machine that a number of calls are made on.
 
+use crate::map::{Map, Part};
 use crate::random::Random;
+use crate::tally::Tally;
 use crate::twin::Twin;
 use cp1610::{HIGHEST_LIMIT, LONGEST_MEMORY, Mark, STATE_WORDS, StateWords};
+use std::rc::Rc;
 
-/// A memory for each kit, and the words of the machine on it.
+/// A memory for each kit, the map over it, and the words of the machine on it.
 pub struct Scene {
     pub memory: Twin<u16>,
+    map: Rc<Map>,
     pub state: StateWords,
 }
 
@@ -14,7 +18,19 @@ impl Scene {
     pub fn new(random: &mut Random) -> Scene {
         let length = any_length(random);
         let words = any_words(random, length);
-        Scene { memory: Twin::of(random, &words), state: any_state(random, length) }
+        let map = Map::good(random, |random| any_address(random, length));
+        Scene { memory: Twin::of(random, &words), map: map.into(), state: any_state(random, length) }
+    }
+
+    /// The map that a call is lent, counted: the scene's, and now and then a wrong one.
+    pub fn lent_map(&self, random: &mut Random, tally: &mut Tally) -> Rc<Map> {
+        let map = if random.one_in(32) {
+            Map::wrong(random, |random| self.address(random)).into()
+        } else {
+            Rc::clone(&self.map)
+        };
+        tally.count_map(&map);
+        map
     }
 
     /// An address in the memory or not far past it, now and then anywhere.
@@ -22,14 +38,22 @@ impl Scene {
         any_address(random, self.memory.len())
     }
 
-    /// The word at an address, as a step reads it.
-    pub fn word_at(&self, at: u16) -> u16 {
-        self.memory.items().get(usize::from(at)).copied().unwrap_or(0xFFFF)
+    /// The word at an address, as a step reads it under a map.
+    pub fn word_at(&self, map: &Map, at: u16) -> u16 {
+        match self.memory.items().get(usize::from(at)) {
+            Some(word) if map.part_at(at) != Part::Empty => *word,
+            _ => 0xFFFF,
+        }
+    }
+
+    /// Whether an address is past the memory.
+    pub fn is_past(&self, at: u16) -> bool {
+        usize::from(at) >= self.memory.len()
     }
 
     /// Whether a branch by `FAR` stands at an address.
-    pub fn is_far_branch(&self, at: u16) -> bool {
-        is_far_branch(&[self.word_at(at), self.word_at(at.wrapping_add(1))])
+    pub fn is_far_branch(&self, map: &Map, at: u16) -> bool {
+        is_far_branch(&[self.word_at(map, at), self.word_at(map, at.wrapping_add(1))])
     }
 
     /// A machine goes on from where a call left it; now and then, and where it halted, it starts from anywhere.

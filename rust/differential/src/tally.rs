@@ -1,5 +1,7 @@
 //! What was met how often, so that a comparison can't pass by being empty.
 
+use crate::map::Map;
+use cp1610::{MOST_RANGES, Range};
 use std::collections::BTreeMap;
 use std::fmt;
 
@@ -12,14 +14,14 @@ struct Answers {
     kinds: &'static [&'static str],
 }
 
-/// All that each call can answer. 255 is the C interface's own refusal, of a short buffer.
+/// All that each call can answer. 255 is the C interface's own refusal, of a short buffer or of a map that is none.
 const ANSWERS: [Answers; 9] = [
     Answers { call: "reset", refusals: &[255], kinds: &["done"] },
-    Answers { call: "step", refusals: &[255, 1, 2, 3], kinds: &["grant", "interrupt", "instruction"] },
-    Answers { call: "run", refusals: &[255, 1, 4, 2], kinds: &["halted", "unspecified", "budget"] },
-    Answers { call: "wait", refusals: &[1, 8], kinds: &["wait", "over", "halts", "unspecified"] },
-    Answers { call: "region", refusals: &[255, 1, 7, 8], kinds: &["wait", "over", "wait and over", "neither"] },
-    Answers { call: "list", refusals: &[255, 1, 5], kinds: &["1 word", "2 words", "3 words"] },
+    Answers { call: "step", refusals: &[255, 1, 14, 2, 3], kinds: &["grant", "interrupt", "instruction"] },
+    Answers { call: "run", refusals: &[255, 1, 14, 4, 2], kinds: &["halted", "unspecified", "budget"] },
+    Answers { call: "wait", refusals: &[255, 1, 14, 8], kinds: &["wait", "over", "halts", "unspecified"] },
+    Answers { call: "region", refusals: &[255, 1, 14, 7, 8], kinds: &["wait", "over", "wait and over", "neither"] },
+    Answers { call: "list", refusals: &[255, 1, 14, 5], kinds: &["1 word", "2 words", "3 words"] },
     Answers { call: "assemble", refusals: &[255, 6], kinds: &["1 word", "2 words", "3 words"] },
     Answers { call: "load", refusals: &[1, 9, 10, 11, 12], kinds: &["no records", "1 record", "records"] },
     Answers { call: "write", refusals: &[1, 7, 11, 13], kinds: &["1 record", "records"] },
@@ -44,10 +46,38 @@ pub(crate) enum Occasion {
     FarBranchListed,
     /// A branch by $8000, assembled.
     FarBranchAssembled,
+    /// A map without ranges.
+    NoRange,
+    /// A map of 16 ranges.
+    MostRanges,
+    /// A map of 17.
+    MoreRanges,
+    /// A map with a range whose first address is above its last.
+    Reversed,
+    /// A map with two ranges of one address.
+    Overlap,
+    /// A map with a range of one word at $0000.
+    LowestWord,
+    /// A map with a range of one word at $FFFF.
+    HighestWord,
+    /// An instruction at an address that memory has and the map has not.
+    EmptyExecuted,
+    /// MVO to a word of 16-bit RAM.
+    Ram16Store,
+    /// MVO to a word of 8-bit RAM.
+    Ram8Store,
+    /// MVO to a word of ROM.
+    RomStore,
+    /// MVO to an empty word.
+    EmptyStore,
+    /// MVO to an address that the map has and memory has not.
+    PastStore,
+    /// An interrupt's push to anything but 16-bit RAM.
+    OtherPush,
 }
 
 /// All of them, as they are printed.
-const OCCASIONS: [(Occasion, &str); 8] = [
+const OCCASIONS: [(Occasion, &str); 22] = [
     (Occasion::LongRun, "budgets of 5,000 to 999,997 spent"),
     (Occasion::LongWait, "limits of 64 to 4,095 with such a wait"),
     (Occasion::LongOver, "passed"),
@@ -56,6 +86,20 @@ const OCCASIONS: [(Occasion, &str); 8] = [
     (Occasion::FarBranchTaken, "branches by $8000 taken"),
     (Occasion::FarBranchListed, "listed"),
     (Occasion::FarBranchAssembled, "assembled"),
+    (Occasion::NoRange, "maps without ranges"),
+    (Occasion::MostRanges, "of 16"),
+    (Occasion::MoreRanges, "of 17"),
+    (Occasion::Reversed, "with a first above its last"),
+    (Occasion::Overlap, "with ranges that overlap"),
+    (Occasion::LowestWord, "with a range of $0000 alone"),
+    (Occasion::HighestWord, "of $FFFF alone"),
+    (Occasion::EmptyExecuted, "empty words executed"),
+    (Occasion::Ram16Store, "stores to 16-bit RAM"),
+    (Occasion::Ram8Store, "to 8-bit RAM"),
+    (Occasion::RomStore, "to ROM"),
+    (Occasion::EmptyStore, "to empty words"),
+    (Occasion::PastStore, "past the memory"),
+    (Occasion::OtherPush, "pushes to other than 16-bit RAM"),
 ];
 
 /// Lengths of memory that have to be met.
@@ -99,6 +143,26 @@ impl Tally {
 
     pub(crate) fn count_memory(&mut self, length: usize) {
         *self.memories.entry(length).or_default() += 1;
+    }
+
+    /// Counts what is rare of a map that is one.
+    pub(crate) fn count_map(&mut self, map: &Map) {
+        let ranges = map.ranges();
+        let overlaps = |n: usize| ranges[..n].iter().any(|range| do_overlap(range, &ranges[n]));
+        let has_word = |at: u16| ranges.iter().any(|range| (range.first, range.last) == (at, at));
+        for (occasion, is_met) in [
+            (Occasion::NoRange, map.words().is_empty()),
+            (Occasion::MostRanges, ranges.len() == MOST_RANGES),
+            (Occasion::MoreRanges, ranges.len() == MOST_RANGES + 1),
+            (Occasion::Reversed, ranges.iter().any(|range| range.first > range.last)),
+            (Occasion::Overlap, (0..ranges.len()).any(overlaps)),
+            (Occasion::LowestWord, has_word(0)),
+            (Occasion::HighestWord, has_word(u16::MAX)),
+        ] {
+            if is_met {
+                self.count_occasion(occasion);
+            }
+        }
     }
 
     pub(crate) fn count_occasion(&mut self, occasion: Occasion) {
@@ -148,6 +212,10 @@ impl Tally {
             assert_ne!(self.assembled[opcode], 0, "opcode {opcode:03X} was never assembled");
         }
     }
+}
+
+fn do_overlap(a: &Range, b: &Range) -> bool {
+    a.first <= b.last && b.first <= a.last
 }
 
 fn least(counts: &[u64; OPCODES]) -> u64 {

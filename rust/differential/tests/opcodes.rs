@@ -1,7 +1,7 @@
 //! The outside lines of `crates/test_opcodes`, whose README says what a row is, on both kits: the words are listed, and the line is
 //! assembled.
 
-use cp1610::TEXT_ROOM;
+use cp1610::{Range, TEXT_ROOM};
 use differential::{Handwritten, Kit, Proved};
 
 const ROWS: &str = include_str!("../../../crates/test_opcodes/stdin");
@@ -41,11 +41,12 @@ fn cut(words: &[u16]) -> Vec<u16> {
 }
 
 fn check<K: Kit>() {
+    let board = K::board(&[Range::ALL_RAM]);
     let mut count = 0;
     for text in ROWS.lines().filter(|text| !text.is_empty() && !text.starts_with('#')) {
         let Row { d, words, used, line } = row(text).unwrap_or_else(|| panic!("{text} is no row"));
         let mut room = [0; TEXT_ROOM];
-        let listed = K::list(&words, 0, d, &mut room).expect("memory and room are as they have to be");
+        let listed = K::list(&words, &board, 0, d, &mut room).expect("memory and room are as they have to be");
         assert_eq!((&room[..listed.length], listed.words), (line.as_bytes(), used), "{text}");
         let assembled = K::assemble(line.as_bytes(), d);
         assert_eq!(assembled.map(|assembled| assembled.words().to_vec()), Ok(cut(&words[..used])), "{text}");

@@ -1,6 +1,6 @@
 //! The outside vectors of `crates/test_vectors`, whose README says what a line is, on both kits.
 
-use cp1610::{Event, LONGEST_MEMORY, Lines, Mark, STATE_WORDS, StateWords, Step};
+use cp1610::{Event, LONGEST_MEMORY, Lines, Mark, Range, STATE_WORDS, StateWords, Step};
 use differential::{Handwritten, Kit, Proved};
 
 const VECTORS: &str = include_str!("../../../crates/test_vectors/stdin");
@@ -66,6 +66,7 @@ fn shown(words: &StateWords) -> StateWords {
 }
 
 fn check<K: Kit>() {
+    let board = K::board(&[Range::ALL_RAM]);
     let (mut memory, mut expected) = (vec![0; LONGEST_MEMORY], vec![0; LONGEST_MEMORY]);
     for (n, line) in VECTORS.lines().enumerate() {
         let vector = vector(line);
@@ -76,7 +77,7 @@ fn check<K: Kit>() {
             memory[usize::from(at)] = word;
         }
         let mut machine = K::from_words(&vector.before);
-        let step = K::step(&mut machine, &mut memory, Lines::QUIET);
+        let step = K::step(&mut machine, &mut memory, &board, Lines::QUIET);
         assert_eq!(step, Ok(Step { event: Event::Executed, cycles: vector.cycles }), "line {}: {line}", n + 1);
         assert_eq!(shown(&K::to_words(&machine)), vector.after, "line {}: {line}", n + 1);
         assert!(memory == expected, "memory of line {}: {line}", n + 1);

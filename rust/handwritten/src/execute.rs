@@ -1,17 +1,11 @@
 //! The instruction rows, and the table with a function for each opcode.
 
 use crate::machine::Machine;
-use crate::memory::{joined, peek, poke};
+use crate::memory::Bus;
 use crate::opcode::{
     CLRC, DIRECT, DIS, EIS, IMMEDIATE, JUMP, NOT_TAKEN, OPCODES, R6, R7, SDBD, SETC, STACK, bit, destination, is_read,
     is_unspecified, opcode_at, row, source,
 };
-
-/// The board as a row sees it. It goes by reference, so that a call passes two pointers.
-pub(crate) struct Board<'a> {
-    pub memory: &'a mut [u16],
-    pub external: u16,
-}
 
 /// What a row's function answers: its cycles, with `STOP` added where a run can't go on. An unspecified form answers `STOP` alone, and
 /// nothing was changed.
@@ -20,11 +14,11 @@ pub(crate) type Charge = u32;
 /// More than any budget, so that a run's loop ends by its one test.
 pub(crate) const STOP: Charge = 1 << 24;
 
-type Execute = fn(&mut Machine, &mut Board) -> Charge;
+type Execute = fn(&mut Machine, &mut Bus) -> Charge;
 
 /// The row of one opcode: `execute` with all that the opcode decides decided while compiling.
-fn execute_opcode<const W: u16>(machine: &mut Machine, board: &mut Board) -> Charge {
-    machine.execute(board.memory, board.external, W)
+fn execute_opcode<const W: u16>(machine: &mut Machine, bus: &mut Bus) -> Charge {
+    machine.execute(bus, W)
 }
 
 /// An array made of `$make!(.. 0)` to `$make!(.. 31)`.
@@ -50,17 +44,17 @@ static EXECUTE: [[Execute; 32]; OPCODES / 32] = array_of_32!(row_of_32);
 
 /// Executes the instruction at R7.
 #[inline(always)]
-pub(crate) fn dispatch(machine: &mut Machine, board: &mut Board) -> Charge {
-    let w = opcode_at(board.memory, machine.r[R7]);
-    EXECUTE.as_flattened()[usize::from(w)](machine, board)
+pub(crate) fn dispatch(machine: &mut Machine, bus: &mut Bus) -> Charge {
+    let w = opcode_at(bus.words(), machine.r[R7]);
+    EXECUTE.as_flattened()[usize::from(w)](machine, bus)
 }
 
 impl Machine {
     /// R7 first moves past the instruction's words, which is what a row sees in it; `at` is the opcode's address.
     #[inline(always)]
-    fn execute(&mut self, memory: &mut [u16], external: u16, w: u16) -> Charge {
+    fn execute(&mut self, bus: &mut Bus, w: u16) -> Charge {
         let at = self.r[R7];
-        if is_unspecified(memory, at, w, self.d) {
+        if is_unspecified(bus.words(), at, w, self.d) {
             return STOP;
         }
         let row = row(w, self.d);
@@ -71,18 +65,18 @@ impl Machine {
             charge += STOP;
         }
         match w {
-            0x000..=0x007 => self.control(memory, at, w),
+            0x000..=0x007 => self.control(bus, at, w),
             0x008..=0x03F => self.single(w),
             0x040..=0x07F => self.shift(w),
             0x080..=0x1FF => self.operate(w, self.r[source(w)]),
             0x200..=0x23F => {
-                if !self.branch(memory, external, at, w) {
+                if !self.branch(bus, at, w) {
                     charge = NOT_TAKEN.into();
                 }
             }
-            0x240..=0x27F => self.store(memory, at, w),
+            0x240..=0x27F => self.store(bus, at, w),
             _ => {
-                let operand = self.read(memory, at, w);
+                let operand = self.read(bus, at, w);
                 self.operate(w, operand);
             }
         }
@@ -93,11 +87,11 @@ impl Machine {
 
     /// 000 to 007. HLT's and SDBD's marks are set where every row's are; TCI does nothing.
     #[inline(always)]
-    fn control(&mut self, memory: &[u16], at: u16, w: u16) {
+    fn control(&mut self, bus: &Bus, at: u16, w: u16) {
         match w {
             EIS => self.i = true,
             DIS => self.i = false,
-            JUMP => self.jump(memory, at),
+            JUMP => self.jump(bus, at),
             CLRC => self.c = false,
             SETC => self.c = true,
             _ => {}
@@ -107,9 +101,9 @@ impl Machine {
     /// "Second word: bits 9-8 return register R4, R5, R6 or none; bits 7-2 address bits 15-10; bits 1-0: 0 none, 1 sets I, 2
     /// clears I".
     #[inline(always)]
-    fn jump(&mut self, memory: &[u16], at: u16) {
-        let second = peek(memory, at.wrapping_add(1));
-        let third = peek(memory, at.wrapping_add(2));
+    fn jump(&mut self, bus: &Bus, at: u16) {
+        let second = bus.peek(at.wrapping_add(1));
+        let third = bus.peek(at.wrapping_add(2));
         match second >> 8 & 3 {
             3 => {}
             n => self.r[4 + usize::from(n)] = self.r[R7],
@@ -173,10 +167,10 @@ impl Machine {
 
     /// 200 to 23F; whether it is taken.
     #[inline(always)]
-    fn branch(&mut self, memory: &[u16], external: u16, at: u16, w: u16) -> bool {
-        let taken = self.is_taken(external, w);
+    fn branch(&mut self, bus: &Bus, at: u16, w: u16) -> bool {
+        let taken = self.is_taken(bus.external, w);
         if taken {
-            let displacement = peek(memory, at.wrapping_add(1));
+            let displacement = bus.peek(at.wrapping_add(1));
             self.r[R7] = if bit(5, w) {
                 at.wrapping_add(1).wrapping_sub(displacement)
             } else {
@@ -207,16 +201,16 @@ impl Machine {
 
     /// MVO: "A store takes its value first", and an immediate one sees R7 on its second word.
     #[inline(always)]
-    fn store(&mut self, memory: &mut [u16], at: u16, w: u16) {
+    fn store(&mut self, bus: &mut Bus, at: u16, w: u16) {
         let s = source(w);
         let second = at.wrapping_add(1);
         let value = if s == IMMEDIATE && destination(w) == R7 { second } else { self.r[destination(w)] };
         match s {
-            DIRECT => poke(memory, peek(memory, second), value),
-            IMMEDIATE => poke(memory, second, value),
-            1..=3 => poke(memory, self.r[s], value),
+            DIRECT => bus.poke(bus.peek(second), value),
+            IMMEDIATE => bus.poke(second, value),
+            1..=3 => bus.poke(self.r[s], value),
             _ => {
-                poke(memory, self.r[s], value);
+                bus.poke(self.r[s], value);
                 self.r[s] = self.r[s].wrapping_add(1);
             }
         }
@@ -224,24 +218,24 @@ impl Machine {
 
     /// The operand of a read row. "A read moves the pointer first".
     #[inline(always)]
-    fn read(&mut self, memory: &[u16], at: u16, w: u16) -> u16 {
+    fn read(&mut self, bus: &Bus, at: u16, w: u16) -> u16 {
         let s = source(w);
         let second = at.wrapping_add(1);
         match s {
-            DIRECT => peek(memory, peek(memory, second)),
-            IMMEDIATE => joined(memory, second, self.d),
+            DIRECT => bus.peek(bus.peek(second)),
+            IMMEDIATE => bus.words().joined(second, self.d),
             STACK => {
                 self.r[R6] = self.r[R6].wrapping_sub(1);
-                peek(memory, self.r[R6])
+                bus.peek(self.r[R6])
             }
             1..=3 => {
-                let word = peek(memory, self.r[s]);
+                let word = bus.peek(self.r[s]);
                 if self.d { (word & 0xFF) * 0x101 } else { word }
             }
             _ => {
                 let from = self.r[s];
                 self.r[s] = from.wrapping_add(if self.d { 2 } else { 1 });
-                joined(memory, from, self.d)
+                bus.words().joined(from, self.d)
             }
         }
     }

@@ -1,12 +1,13 @@
-//! A CP1610 board kit in plain safe Rust, written by hand from document 01 and from nothing else: no rule or table of it comes
+//! A CP1610 board kit in plain safe Rust, written by hand from documents 01 and 02 and from nothing else: no rule or table of it comes
 //! from the proved code, and the proved library is not linked. It speaks in the types of the crate `cp1610`, so that one program can
 //! use either kit. The tests in `differential` hold the proved core against it, and `speed` measures both.
 //!
 //! It is written for speed, as an emulator's author would: a machine is changed in place, each opcode has a function of its own
-//! in a table, and what an opcode alone decides is decided while compiling.
+//! in a table, what an opcode alone decides is decided while compiling, and what a board's map decides is decided when the board is made.
 
 mod alu;
 mod assemble;
+mod board;
 mod execute;
 mod image;
 mod list;
@@ -19,6 +20,7 @@ mod shift;
 mod step;
 
 pub use assemble::assemble;
+pub use board::Board;
 pub use image::{load, write};
 pub use list::list;
 pub use machine::Machine;

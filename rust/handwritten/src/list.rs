@@ -1,6 +1,7 @@
 //! The lister: the line of the instruction at an address.
 
-use crate::memory::{check_length, joined, peek};
+use crate::board::Board;
+use crate::memory::Words;
 use crate::mnemonic::{CALLS, DECLE, Form, JUMPS, MNEMONICS, Name, PLACE_OF};
 use crate::opcode::{JUMP, SDBD, bit, destination, opcode_at, row_of, source};
 use cp1610::{Listed, Refusal, TEXT_ROOM};
@@ -11,9 +12,9 @@ const DIGITS: &[u8; 16] = b"0123456789ABCDEF";
 ///
 /// # Errors
 ///
-/// Refused by 1 and 5, in this order.
-pub fn list(memory: &[u16], address: u16, d: bool, text: &mut [u8]) -> Result<Listed, Refusal> {
-    check_length(memory)?;
+/// Refused by 1, 14 and 5, in this order.
+pub fn list(memory: &[u16], board: &Board, address: u16, d: bool, text: &mut [u8]) -> Result<Listed, Refusal> {
+    let memory = Words::new(memory, board)?;
     if text.len() < TEXT_ROOM {
         return Err(Refusal::TextRoomTooSmall);
     }
@@ -36,8 +37,8 @@ impl Line {
     }
 
     /// Makes the line of a jump, and answers how many words it has. With bits 3 it is no jump but a word by itself.
-    fn jump(&mut self, memory: &[u16], at: u16) -> u8 {
-        let (second, third) = (peek(memory, at.wrapping_add(1)), peek(memory, at.wrapping_add(2)));
+    fn jump(&mut self, memory: Words, at: u16) -> u8 {
+        let (second, third) = (memory.peek(at.wrapping_add(1)), memory.peek(at.wrapping_add(2)));
         let bits = usize::from(second & 3);
         if bits == 3 {
             self.name(MNEMONICS[DECLE].name).put(*b" $").hex(JUMP);
@@ -52,9 +53,9 @@ impl Line {
     }
 
     /// Makes the line of any other opcode, and answers how many words it has.
-    fn instruction(&mut self, memory: &[u16], at: u16, w: u16, d: bool) -> u8 {
+    fn instruction(&mut self, memory: Words, at: u16, w: u16, d: bool) -> u8 {
         let mnemonic = &MNEMONICS[usize::from(PLACE_OF[usize::from(w)])];
-        let operand = || peek(memory, at.wrapping_add(1));
+        let operand = || memory.peek(at.wrapping_add(1));
         let sign = if bit(5, w) { b'-' } else { b'+' };
         let (s, r) = (source(w), destination(w));
         self.name(mnemonic.name);
@@ -71,7 +72,7 @@ impl Line {
             Form::StoreDirect => self.register(r).put(*b",$").hex(operand()),
             Form::StoreImmediate => self.register(r).put(*b",#$").hex(operand()),
             Form::ReadDirect => self.put(*b" $").hex(operand()).last_register(r),
-            Form::ReadImmediate => self.put(*b" #$").hex(joined(memory, at.wrapping_add(1), d)).last_register(r),
+            Form::ReadImmediate => self.put(*b" #$").hex(memory.joined(at.wrapping_add(1), d)).last_register(r),
             Form::Jump | Form::Call | Form::Decle => unreachable!("a jump has a line of its own"),
         };
         row_of(w, d).words

@@ -1,6 +1,7 @@
 //! The wait meter: how long a request can go unheard from an address, or from any address of a region.
 
-use crate::memory::check_length;
+use crate::board::Board;
+use crate::memory::Words;
 use crate::opcode::{HLT, SDBD, is_unspecified, opcode_at, row_of};
 use cp1610::{HIGHEST_LIMIT, Longest, Refusal, Region, USUAL_LIMIT, Wait};
 
@@ -8,26 +9,26 @@ use cp1610::{HIGHEST_LIMIT, Longest, Refusal, Region, USUAL_LIMIT, Wait};
 ///
 /// # Errors
 ///
-/// Refused by 1 and 8, in this order.
-pub fn wait(memory: &[u16], address: u16, limit: u16) -> Result<Wait, Refusal> {
-    check_length(memory)?;
-    Ok(walk(memory, address, limit_of(limit)?))
+/// Refused by 1, 14 and 8, in this order.
+pub fn wait(memory: &[u16], board: &Board, address: u16, limit: u16) -> Result<Wait, Refusal> {
+    let words = Words::new(memory, board)?;
+    Ok(walk(words, address, limit_of(limit)?))
 }
 
 /// The longest wait from any address of `first..=last`, and the lowest that is over the limit.
 ///
 /// # Errors
 ///
-/// Refused by 1, 7 and 8, in this order.
-pub fn region(memory: &[u16], first: u16, last: u16, limit: u16) -> Result<Region, Refusal> {
-    check_length(memory)?;
+/// Refused by 1, 14, 7 and 8, in this order.
+pub fn region(memory: &[u16], board: &Board, first: u16, last: u16, limit: u16) -> Result<Region, Refusal> {
+    let words = Words::new(memory, board)?;
     if first > last {
         return Err(Refusal::FirstAboveLast);
     }
     let limit = limit_of(limit)?;
     let mut found = Region { longest: None, over: None };
     for start in first..=last {
-        let answer = walk(memory, start, limit);
+        let answer = walk(words, start, limit);
         if let Wait::Wait { cycles } = answer {
             if found.longest.is_none_or(|longest| longest.cycles < cycles) {
                 found.longest = Some(Longest { cycles, start });
@@ -50,14 +51,14 @@ fn limit_of(limit: u16) -> Result<u16, Refusal> {
 
 /// A row that is not heard is never unspecified, so only the last one has to be looked at for that.
 #[inline(always)]
-fn walk(memory: &[u16], start: u16, limit: u16) -> Wait {
+fn walk(words: Words, start: u16, limit: u16) -> Wait {
     let (mut at, mut sum, mut d) = (start, 0, false);
     loop {
-        let w = opcode_at(memory, at);
+        let w = opcode_at(words, at);
         let row = row_of(w, d);
         sum += u16::from(row.cycles);
         if row.heard | row.halts {
-            return last_row(memory, at, w, d, sum, limit);
+            return last_row(words, at, w, d, sum, limit);
         }
         if sum > limit {
             return Wait::Over;
@@ -68,8 +69,8 @@ fn walk(memory: &[u16], start: u16, limit: u16) -> Wait {
 }
 
 #[inline(always)]
-fn last_row(memory: &[u16], at: u16, w: u16, d: bool, sum: u16, limit: u16) -> Wait {
-    if is_unspecified(memory, at, w, d) {
+fn last_row(words: Words, at: u16, w: u16, d: bool, sum: u16, limit: u16) -> Wait {
+    if is_unspecified(words, at, w, d) {
         Wait::Unspecified { address: at }
     } else if sum > limit {
         Wait::Over

@@ -1,6 +1,6 @@
 //! What an opcode alone says: its fields, and its row's words, cycles and "heard" mark.
 
-use crate::memory::peek;
+use crate::memory::Words;
 
 /// "Opcode = word modulo 1024".
 pub(crate) const OPCODES: usize = 1_024;
@@ -45,8 +45,8 @@ const fn unheard(words: u8, cycles: u8) -> Row {
 }
 
 #[inline(always)]
-pub(crate) fn opcode_at(memory: &[u16], at: u16) -> u16 {
-    peek(memory, at) % OPCODES as u16
+pub(crate) fn opcode_at(words: Words, at: u16) -> u16 {
+    words.peek(at) % OPCODES as u16
 }
 
 pub(crate) const fn source(w: u16) -> usize {
@@ -116,9 +116,9 @@ const fn rows(d: bool) -> [Row; OPCODES] {
 
 /// The two unspecified forms: a jump whose second word ends in bits 3, and a stack read under D.
 #[inline(always)]
-pub(crate) fn is_unspecified(memory: &[u16], at: u16, w: u16, d: bool) -> bool {
+pub(crate) fn is_unspecified(words: Words, at: u16, w: u16, d: bool) -> bool {
     if w == JUMP {
-        return peek(memory, at.wrapping_add(1)) & 3 == 3;
+        return words.peek(at.wrapping_add(1)) & 3 == 3;
     }
     d && is_read(w) && source(w) == STACK
 }

@@ -1,8 +1,9 @@
 //! One step, in document 01's order, and a run of steps.
 
-use crate::execute::{Board, STOP, dispatch};
+use crate::board::Board;
+use crate::execute::{STOP, dispatch};
 use crate::machine::Machine;
-use crate::memory::{check_length, poke};
+use crate::memory::Bus;
 use crate::opcode::{R6, R7, is_unspecified, opcode_at};
 use cp1610::{Cause, Event, HIGHEST_BUDGET, Lines, Refusal, Run, Step};
 
@@ -24,17 +25,17 @@ impl Machine {
     ///
     /// # Errors
     ///
-    /// Refused by 1, 2 and 3, in this order.
-    pub fn step(&mut self, memory: &mut [u16], lines: Lines) -> Result<Step, Refusal> {
-        check_length(memory)?;
+    /// Refused by 1, 14, 2 and 3, in this order.
+    pub fn step(&mut self, memory: &mut [u16], board: &Board, lines: Lines) -> Result<Step, Refusal> {
+        let mut bus = Bus::new(memory, board, lines.external)?;
         if self.halted {
             return Err(Refusal::Halted);
         }
         let pending = self.is_noted(lines);
-        if let Some(step) = self.serve(memory, lines, pending) {
+        if let Some(step) = self.serve(&mut bus, lines, pending) {
             return Ok(step);
         }
-        let charge = dispatch(self, &mut Board { memory, external: lines.external });
+        let charge = dispatch(self, &mut bus);
         if charge == STOP {
             return Err(Refusal::Unspecified);
         }
@@ -47,20 +48,19 @@ impl Machine {
     ///
     /// # Errors
     ///
-    /// Refused by 1, 4 and 2, in this order.
-    pub fn run(&mut self, memory: &mut [u16], lines: Lines, budget: u32) -> Result<Run, Refusal> {
-        check_length(memory)?;
+    /// Refused by 1, 14, 4 and 2, in this order.
+    pub fn run(&mut self, memory: &mut [u16], board: &Board, lines: Lines, budget: u32) -> Result<Run, Refusal> {
+        let mut bus = Bus::new(memory, board, lines.external)?;
         if budget > HIGHEST_BUDGET {
             return Err(Refusal::BudgetTooHigh);
         }
         if self.halted {
             return Err(Refusal::Halted);
         }
-        let mut board = Board { memory, external: lines.external };
         let mut pending = self.is_noted(lines);
         let mut spent = Spent { steps: 0, left: budget as i32 };
-        self.run_asked(&mut board, lines, &mut pending, &mut spent);
-        self.run_unasked(&mut board, &mut spent);
+        self.run_asked(&mut bus, lines, &mut pending, &mut spent);
+        self.run_unasked(&mut bus, &mut spent);
         if spent.left < -SLACK {
             spent.left += STOP as i32;
             spent.steps -= u32::from(!self.halted);
@@ -70,30 +70,32 @@ impl Machine {
             self.pending = pending;
         }
         let cycles = (budget as i32 - spent.left) as u32;
-        Ok(Run { steps: spent.steps, cycles, cause: self.cause(memory, lines, pending) })
+        Ok(Run { steps: spent.steps, cycles, cause: self.cause(&bus, lines, pending) })
     }
 
     /// The steps before which a request may be served. The lines are fixed, so the mark of item 2 is the same before each step
     /// until an interrupt is served; from then on, nothing can be asked for but the bus.
-    fn run_asked(&mut self, board: &mut Board, lines: Lines, pending: &mut bool, spent: &mut Spent) {
+    fn run_asked(&mut self, bus: &mut Bus, lines: Lines, pending: &mut bool, spent: &mut Spent) {
         while spent.left > 0 && (*pending || !lines.busrq) {
-            let charge = match self.serve(board.memory, lines, *pending) {
+            let charge = match self.serve(bus, lines, *pending) {
                 Some(step) => {
                     *pending = self.pending;
                     step.cycles
                 }
-                None => dispatch(self, board),
+                None => dispatch(self, bus),
             };
             spent.left -= charge as i32;
             spent.steps += 1;
         }
     }
 
-    /// The steps before which nothing is asked for: instructions only.
-    fn run_unasked(&mut self, board: &mut Board, spent: &mut Spent) {
+    /// The steps before which nothing is asked for: instructions only. A function of its own, so that this loop has the registers to
+    /// itself: inlined, it takes one machine instruction a step more.
+    #[inline(never)]
+    fn run_unasked(&mut self, bus: &mut Bus, spent: &mut Spent) {
         let Spent { mut steps, mut left } = *spent;
         while left > 0 {
-            left -= dispatch(self, board) as i32;
+            left -= dispatch(self, bus) as i32;
             steps += 1;
         }
         *spent = Spent { steps, left };
@@ -120,12 +122,12 @@ impl Machine {
     }
 
     #[inline(always)]
-    fn serve(&mut self, memory: &mut [u16], lines: Lines, pending: bool) -> Option<Step> {
+    fn serve(&mut self, bus: &mut Bus, lines: Lines, pending: bool) -> Option<Step> {
         let step = self.served(lines, pending)?;
         self.level = lines.intrm;
         self.pending = pending;
         if step.event == Event::Interrupted {
-            poke(memory, self.r[R6], self.r[R7]);
+            bus.poke(self.r[R6], self.r[R7]);
             self.r[R6] = self.r[R6].wrapping_add(1);
             self.r[R7] = INTERRUPT_ADDRESS;
             self.pending = false;
@@ -136,12 +138,12 @@ impl Machine {
     }
 
     /// What ended a run: "halted, then unspecified, then budget".
-    fn cause(&self, memory: &[u16], lines: Lines, pending: bool) -> Cause {
-        let at = self.r[R7];
+    fn cause(&self, bus: &Bus, lines: Lines, pending: bool) -> Cause {
+        let (words, at) = (bus.words(), self.r[R7]);
         let executes = self.served(lines, pending).is_none();
         if self.halted {
             Cause::Halted
-        } else if executes && is_unspecified(memory, at, opcode_at(memory, at), self.d) {
+        } else if executes && is_unspecified(words, at, opcode_at(words, at), self.d) {
             Cause::Unspecified
         } else {
             Cause::Budget

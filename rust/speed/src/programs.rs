@@ -1,6 +1,6 @@
 //! The programs that are run, as the lister's lines.
 
-use cp1610::{LONGEST_MEMORY, Mark, STATE_WORDS, StateWords};
+use cp1610::{LONGEST_MEMORY, Mark, Range, STATE_WORDS, StateWords};
 
 const START: u16 = 0x1000;
 const SUBROUTINE: u16 = 0x1800;
@@ -93,6 +93,22 @@ pub fn copy() -> Program {
 
 pub fn mixed() -> Program {
     program(&[(START, MIXED), (SUBROUTINE, MIXED_SUBROUTINE)])
+}
+
+/// The map of six ranges of `bench/drive.c`, as a console has them. The mixed program's code lies in ROM, its data in 16-bit RAM.
+pub const SIX_RANGES: [Range; 6] = [
+    Range::ram16(0x0000, 0x03FF),
+    Range::ram8(0x0400, 0x04FF),
+    Range::rom(0x1000, 0x1FFF),
+    Range::rom(0x3000, 0x37FF),
+    Range::ram8(0x3800, 0x39FF),
+    Range::rom(0x5000, 0x6FFF),
+];
+
+/// The map of sixteen ranges there: 15 words that no program meets, and all-RAM as the last, which decides.
+pub fn sixteen_ranges() -> Vec<Range> {
+    let words = (0xFFF0..0xFFFF).map(|at| Range::rom(at, at));
+    words.chain([Range::ALL_RAM]).collect()
 }
 
 /// A whole memory of made-up words, the same on every machine.

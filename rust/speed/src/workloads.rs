@@ -1,9 +1,10 @@
 //! The workloads. Each round prepares its memory and its rooms anew and outside of what is measured, in the same way for both
-//! kits: memory is written in full before a run, and cleared before a load; a room for a file is cleared before a write.
+//! kits: memory is written in full before a run, and cleared before a load; a room for a file is cleared before a write. A board is made
+//! then too, as a program makes one for many calls; it is all-RAM unless the workload says another.
 
 use crate::measured::{Measured, digest, time_of};
-use crate::programs::{self, Program, made_up_words};
-use cp1610::{HIGHEST_BUDGET, HIGHEST_LIMIT, LONGEST_MEMORY, Lines, TEXT_ROOM};
+use crate::programs::{self, Program, SIX_RANGES, made_up_words, sixteen_ranges};
+use cp1610::{HIGHEST_BUDGET, HIGHEST_LIMIT, LONGEST_MEMORY, Lines, Range, TEXT_ROOM};
 use differential::{Handwritten, Kit, Proved};
 use std::hint::black_box;
 
@@ -22,10 +23,12 @@ macro_rules! workload {
     };
 }
 
-pub const WORKLOADS: [Workload; 13] = [
+pub const WORKLOADS: [Workload; 15] = [
     workload!("run-alu", "step", run_alu),
     workload!("run-copy", "step", run_copy),
     workload!("run-mixed", "step", run_mixed),
+    workload!("run-mixed-six", "step", run_mixed_six),
+    workload!("run-mixed-sixteen", "step", run_mixed_sixteen),
     workload!("run-100-cycles", "step", run_shortly),
     workload!("step", "step", step),
     workload!("wait", "call", wait),
@@ -41,14 +44,15 @@ pub const WORKLOADS: [Workload; 13] = [
 const SHORT_RUN: u32 = 100;
 const SHORT_RUNS: u32 = HIGHEST_BUDGET / SHORT_RUN;
 const BOARD: u16 = 2;
+const ALL_RAM: &[Range] = &[Range::ALL_RAM];
 
 /// Runs a program for so many cycles at a time, and so many times. The lines are hidden from the compiler.
-fn run<K: Kit>(mut program: Program, cycles: u32, times: u32) -> Measured {
-    let mut machine = K::from_words(&program.state);
+fn run<K: Kit>(mut program: Program, ranges: &[Range], cycles: u32, times: u32) -> Measured {
+    let (mut machine, board) = (K::from_words(&program.state), K::board(ranges));
     let mut steps = 0;
     let time = time_of(|| {
         for _ in 0..times {
-            let run = K::run(&mut machine, &mut program.memory, black_box(Lines::QUIET), black_box(cycles));
+            let run = K::run(&mut machine, &mut program.memory, &board, black_box(Lines::QUIET), black_box(cycles));
             steps += u64::from(run.map_or(0, |run| run.steps));
         }
     });
@@ -56,29 +60,37 @@ fn run<K: Kit>(mut program: Program, cycles: u32, times: u32) -> Measured {
 }
 
 fn run_alu<K: Kit>() -> Measured {
-    run::<K>(programs::alu(), HIGHEST_BUDGET, 1)
+    run::<K>(programs::alu(), ALL_RAM, HIGHEST_BUDGET, 1)
 }
 
 fn run_copy<K: Kit>() -> Measured {
-    run::<K>(programs::copy(), HIGHEST_BUDGET, 1)
+    run::<K>(programs::copy(), ALL_RAM, HIGHEST_BUDGET, 1)
 }
 
 fn run_mixed<K: Kit>() -> Measured {
-    run::<K>(programs::mixed(), HIGHEST_BUDGET, 1)
+    run::<K>(programs::mixed(), ALL_RAM, HIGHEST_BUDGET, 1)
+}
+
+fn run_mixed_six<K: Kit>() -> Measured {
+    run::<K>(programs::mixed(), &SIX_RANGES, HIGHEST_BUDGET, 1)
+}
+
+fn run_mixed_sixteen<K: Kit>() -> Measured {
+    run::<K>(programs::mixed(), &sixteen_ranges(), HIGHEST_BUDGET, 1)
 }
 
 fn run_shortly<K: Kit>() -> Measured {
-    run::<K>(programs::mixed(), SHORT_RUN, SHORT_RUNS)
+    run::<K>(programs::mixed(), ALL_RAM, SHORT_RUN, SHORT_RUNS)
 }
 
 fn step<K: Kit>() -> Measured {
     const STEPS: u64 = 100_000;
     let mut program = programs::mixed();
-    let mut machine = K::from_words(&program.state);
+    let (mut machine, board) = (K::from_words(&program.state), K::board(ALL_RAM));
     let mut cycles = 0;
     let time = time_of(|| {
         for _ in 0..STEPS {
-            let step = K::step(&mut machine, &mut program.memory, black_box(Lines::QUIET));
+            let step = K::step(&mut machine, &mut program.memory, &board, black_box(Lines::QUIET));
             cycles += step.map_or(0, |step| step.cycles);
         }
     });
@@ -86,11 +98,11 @@ fn step<K: Kit>() -> Measured {
 }
 
 fn wait<K: Kit>() -> Measured {
-    let memory = made_up_words();
+    let (memory, board) = (made_up_words(), K::board(ALL_RAM));
     let mut answers = Vec::with_capacity(LONGEST_MEMORY);
     let time = time_of(|| {
         for address in 0..=u16::MAX {
-            answers.push(K::wait(&memory, address, 0));
+            answers.push(K::wait(&memory, &board, address, 0));
         }
     });
     Measured { units: answers.len() as u64, time, digest: digest(format!("{answers:?}")) }
@@ -98,9 +110,9 @@ fn wait<K: Kit>() -> Measured {
 
 /// A region of made-up words: short walks, as code has them.
 fn region<K: Kit>() -> Measured {
-    let memory = made_up_words();
+    let (memory, board) = (made_up_words(), K::board(ALL_RAM));
     let mut found = None;
-    let time = time_of(|| found = K::region(&memory, 0, u16::MAX, black_box(0)).ok());
+    let time = time_of(|| found = K::region(&memory, &board, 0, u16::MAX, black_box(0)).ok());
     Measured { units: LONGEST_MEMORY as u64, time, digest: digest(format!("{found:?}")) }
 }
 
@@ -109,9 +121,9 @@ fn region_long_walks<K: Kit>() -> Measured {
     const CLRC: u16 = 0x006;
     const STARTS: u16 = 256;
     const ROWS: u64 = HIGHEST_LIMIT as u64 / 4 + 1;
-    let memory = vec![CLRC; LONGEST_MEMORY];
+    let (memory, board) = (vec![CLRC; LONGEST_MEMORY], K::board(ALL_RAM));
     let mut found = None;
-    let time = time_of(|| found = K::region(&memory, 0, STARTS - 1, black_box(HIGHEST_LIMIT)).ok());
+    let time = time_of(|| found = K::region(&memory, &board, 0, STARTS - 1, black_box(HIGHEST_LIMIT)).ok());
     Measured { units: u64::from(STARTS) * ROWS, time, digest: digest(format!("{found:?}")) }
 }
 
@@ -119,11 +131,11 @@ fn region_long_walks<K: Kit>() -> Measured {
 const LISTED: u16 = 4_096;
 
 fn list<K: Kit>() -> Measured {
-    let memory = made_up_words();
+    let (memory, board) = (made_up_words(), K::board(ALL_RAM));
     let mut lines = vec![([0; TEXT_ROOM], 0); 2 * usize::from(LISTED)];
     let time = time_of(|| {
         for (n, (text, length)) in lines.iter_mut().enumerate() {
-            let listed = K::list(&memory, (n / 2) as u16, n % 2 == 1, text);
+            let listed = K::list(&memory, &board, (n / 2) as u16, n % 2 == 1, text);
             *length = listed.map_or(0, |listed| listed.length);
         }
     });
@@ -132,12 +144,12 @@ fn list<K: Kit>() -> Measured {
 
 /// The same lines as those listed.
 fn assemble<K: Kit>() -> Measured {
-    let memory = made_up_words();
+    let (memory, board) = (made_up_words(), handwritten::Board::all_ram());
     let mut lines = Vec::new();
     for n in 0..2 * LISTED {
         let mut text = [0; TEXT_ROOM];
-        let listed =
-            handwritten::list(&memory, n / 2, n % 2 == 1, &mut text).expect("memory and room are as they have to be");
+        let listed = handwritten::list(&memory, &board, n / 2, n % 2 == 1, &mut text)
+            .expect("memory and room are as they have to be");
         lines.push((text[..listed.length].to_vec(), n % 2 == 1));
     }
     let mut words = Vec::with_capacity(lines.len());

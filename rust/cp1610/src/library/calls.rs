@@ -6,23 +6,45 @@
 /// The refusal of a `state`, `out` or `words` that is too short: the C interface's own number, none of document 01's.
 pub const SHORT_BUFFER: u64 = 255;
 
+/// The refusal of a `map` that is none: its length is no multiple of 3, or it has a kind above 2 in one of its first 16 ranges.
+pub const NO_MAP: u64 = SHORT_BUFFER;
+
 unsafe extern "C" {
     fn cp1610_reset(state: *mut u16, state_length: usize) -> u64;
-    fn cp1610_step(state: *mut u16, state_length: usize, mem: *mut u16, mem_length: usize, lines: u32) -> u64;
+    fn cp1610_step(
+        state: *mut u16,
+        state_length: usize,
+        mem: *mut u16,
+        mem_length: usize,
+        map: *const u16,
+        map_length: usize,
+        lines: u32,
+    ) -> u64;
     fn cp1610_run(
         state: *mut u16,
         state_length: usize,
         mem: *mut u16,
         mem_length: usize,
+        map: *const u16,
+        map_length: usize,
         lines: u32,
         budget: u32,
         out: *mut u32,
         out_length: usize,
     ) -> u64;
-    fn cp1610_wait(mem: *const u16, mem_length: usize, address: u16, limit: u16) -> u64;
+    fn cp1610_wait(
+        mem: *const u16,
+        mem_length: usize,
+        map: *const u16,
+        map_length: usize,
+        address: u16,
+        limit: u16,
+    ) -> u64;
     fn cp1610_region(
         mem: *const u16,
         mem_length: usize,
+        map: *const u16,
+        map_length: usize,
         first: u16,
         last: u16,
         limit: u16,
@@ -32,6 +54,8 @@ unsafe extern "C" {
     fn cp1610_list(
         mem: *const u16,
         mem_length: usize,
+        map: *const u16,
+        map_length: usize,
         address: u16,
         d: u8,
         text: *mut u8,
@@ -64,14 +88,16 @@ pub fn reset(state: &mut [u16]) -> u64 {
 
 /// `cp1610_step`.
 #[inline]
-pub fn step(state: &mut [u16], memory: &mut [u16], lines: u32) -> u64 {
+pub fn step(state: &mut [u16], memory: &mut [u16], map: &[u16], lines: u32) -> u64 {
     // SAFETY: as above.
-    unsafe { cp1610_step(state.as_mut_ptr(), state.len(), memory.as_mut_ptr(), memory.len(), lines) }
+    unsafe {
+        cp1610_step(state.as_mut_ptr(), state.len(), memory.as_mut_ptr(), memory.len(), map.as_ptr(), map.len(), lines)
+    }
 }
 
 /// `cp1610_run`.
 #[inline]
-pub fn run(state: &mut [u16], memory: &mut [u16], lines: u32, budget: u32, out: &mut [u32]) -> u64 {
+pub fn run(state: &mut [u16], memory: &mut [u16], map: &[u16], lines: u32, budget: u32, out: &mut [u32]) -> u64 {
     // SAFETY: as above.
     unsafe {
         cp1610_run(
@@ -79,6 +105,8 @@ pub fn run(state: &mut [u16], memory: &mut [u16], lines: u32, budget: u32, out: 
             state.len(),
             memory.as_mut_ptr(),
             memory.len(),
+            map.as_ptr(),
+            map.len(),
             lines,
             budget,
             out.as_mut_ptr(),
@@ -89,26 +117,40 @@ pub fn run(state: &mut [u16], memory: &mut [u16], lines: u32, budget: u32, out: 
 
 /// `cp1610_wait`.
 #[inline]
-pub fn wait(memory: &[u16], address: u16, limit: u16) -> u64 {
+pub fn wait(memory: &[u16], map: &[u16], address: u16, limit: u16) -> u64 {
     // SAFETY: as above.
-    unsafe { cp1610_wait(memory.as_ptr(), memory.len(), address, limit) }
+    unsafe { cp1610_wait(memory.as_ptr(), memory.len(), map.as_ptr(), map.len(), address, limit) }
 }
 
 /// `cp1610_region`.
 #[inline]
-pub fn region(memory: &[u16], first: u16, last: u16, limit: u16, out: &mut [u32]) -> u64 {
+pub fn region(memory: &[u16], map: &[u16], first: u16, last: u16, limit: u16, out: &mut [u32]) -> u64 {
     // SAFETY: as above.
-    unsafe { cp1610_region(memory.as_ptr(), memory.len(), first, last, limit, out.as_mut_ptr(), out.len()) }
+    unsafe {
+        cp1610_region(
+            memory.as_ptr(),
+            memory.len(),
+            map.as_ptr(),
+            map.len(),
+            first,
+            last,
+            limit,
+            out.as_mut_ptr(),
+            out.len(),
+        )
+    }
 }
 
 /// `cp1610_list`.
 #[inline]
-pub fn list(memory: &[u16], address: u16, d: u8, text: &mut [u8], out: &mut [u32]) -> u64 {
+pub fn list(memory: &[u16], map: &[u16], address: u16, d: u8, text: &mut [u8], out: &mut [u32]) -> u64 {
     // SAFETY: as above.
     unsafe {
         cp1610_list(
             memory.as_ptr(),
             memory.len(),
+            map.as_ptr(),
+            map.len(),
             address,
             d,
             text.as_mut_ptr(),

@@ -2,29 +2,29 @@
 
 use super::calls;
 use super::words::success;
-use crate::{Assembled, LINE_WORDS, Listed, Refusal};
+use crate::{Assembled, Board, LINE_WORDS, Listed, Refusal};
 
 /// Puts the line of the instruction at `address` into `text`, with D as it stands there. The room past the line stays.
 ///
 /// ```
 /// let memory = [0x2B8, 0x1234];
 /// let mut text = [0; cp1610::TEXT_ROOM];
-/// let listed = cp1610::list(&memory, 0, false, &mut text)?;
+/// let listed = cp1610::list(&memory, &cp1610::Board::all_ram(), 0, false, &mut text)?;
 /// assert_eq!((&text[..listed.length], listed.words), (&b"MVII #$1234,R0"[..], 2));
 /// # Ok::<(), cp1610::Refusal>(())
 /// ```
 ///
 /// # Errors
 ///
-/// [`Refusal::MemoryTooLong`], then [`Refusal::TextRoomTooSmall`].
+/// [`Refusal::MemoryTooLong`], then [`Refusal::BadMap`], then [`Refusal::TextRoomTooSmall`].
 ///
 /// # Panics
 ///
 /// Only where [another library](crate#panics) was linked.
 #[inline]
-pub fn list(memory: &[u16], address: u16, d: bool, text: &mut [u8]) -> Result<Listed, Refusal> {
+pub fn list(memory: &[u16], board: &Board, address: u16, d: bool, text: &mut [u8]) -> Result<Listed, Refusal> {
     let mut out = [0; 3];
-    success(calls::list(memory, address, d.into(), text, &mut out))?;
+    success(calls::list(memory, board.map(), address, d.into(), text, &mut out))?;
     let [length, words, next_d] = out;
     Ok(Listed { length: length as usize, words: words as usize, next_d: next_d != 0 })
 }

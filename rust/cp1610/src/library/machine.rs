@@ -2,7 +2,7 @@
 
 use super::calls;
 use super::words::{line_bits, success, unexpected};
-use crate::{Cause, Event, Lines, Mark, Refusal, Register, Run, STATE_WORDS, StateWords, Step};
+use crate::{Board, Cause, Event, Lines, Mark, Refusal, Register, Run, STATE_WORDS, StateWords, Step};
 
 const REGISTERS: usize = 8;
 
@@ -68,26 +68,27 @@ impl Machine {
     /// One step: the bus is granted, an interrupt is entered, or an instruction is executed.
     ///
     /// ```
-    /// use cp1610::{Event, Lines, Machine, Register, Step};
+    /// use cp1610::{Board, Event, Lines, Machine, Register, Step};
     ///
     /// let mut memory = [0x009]; // INCR R1
     /// let mut machine = Machine::reset();
     /// machine.set_register(Register::R7, 0);
-    /// assert_eq!(machine.step(&mut memory, Lines::QUIET)?, Step { event: Event::Executed, cycles: 6 });
+    /// let step = machine.step(&mut memory, &Board::all_ram(), Lines::QUIET)?;
+    /// assert_eq!(step, Step { event: Event::Executed, cycles: 6 });
     /// assert_eq!(machine.register(Register::R1), 1);
     /// # Ok::<(), cp1610::Refusal>(())
     /// ```
     ///
     /// # Errors
     ///
-    /// [`Refusal::MemoryTooLong`], then [`Refusal::Halted`], then [`Refusal::Unspecified`].
+    /// [`Refusal::MemoryTooLong`], then [`Refusal::BadMap`], then [`Refusal::Halted`], then [`Refusal::Unspecified`].
     ///
     /// # Panics
     ///
     /// Only where [another library](crate#panics) was linked.
     #[inline]
-    pub fn step(&mut self, memory: &mut [u16], lines: Lines) -> Result<Step, Refusal> {
-        let answer = success(calls::step(&mut self.words, memory, line_bits(lines)))?;
+    pub fn step(&mut self, memory: &mut [u16], board: &Board, lines: Lines) -> Result<Step, Refusal> {
+        let answer = success(calls::step(&mut self.words, memory, board.map(), line_bits(lines)))?;
         let event = match answer.kind {
             3 => Event::Granted,
             4 => Event::Interrupted,
@@ -101,12 +102,12 @@ impl Machine {
     /// refused as unspecified.
     ///
     /// ```
-    /// use cp1610::{Cause, Lines, Machine, Register, Run};
+    /// use cp1610::{Board, Cause, Lines, Machine, Register, Run};
     ///
     /// let mut memory = [0x009, 0x220, 0x0002]; // INCR R1; B -$0002
     /// let mut machine = Machine::reset();
     /// machine.set_register(Register::R7, 0);
-    /// let run = machine.run(&mut memory, Lines::QUIET, 150)?;
+    /// let run = machine.run(&mut memory, &Board::all_ram(), Lines::QUIET, 150)?;
     /// assert_eq!(run, Run { steps: 20, cycles: 150, cause: Cause::Budget });
     /// assert_eq!(machine.register(Register::R1), 10);
     /// # Ok::<(), cp1610::Refusal>(())
@@ -114,15 +115,15 @@ impl Machine {
     ///
     /// # Errors
     ///
-    /// [`Refusal::MemoryTooLong`], then [`Refusal::BudgetTooHigh`], then [`Refusal::Halted`].
+    /// [`Refusal::MemoryTooLong`], then [`Refusal::BadMap`], then [`Refusal::BudgetTooHigh`], then [`Refusal::Halted`].
     ///
     /// # Panics
     ///
     /// Only where [another library](crate#panics) was linked.
     #[inline]
-    pub fn run(&mut self, memory: &mut [u16], lines: Lines, budget: u32) -> Result<Run, Refusal> {
+    pub fn run(&mut self, memory: &mut [u16], board: &Board, lines: Lines, budget: u32) -> Result<Run, Refusal> {
         let mut out = [0; 3];
-        success(calls::run(&mut self.words, memory, line_bits(lines), budget, &mut out))?;
+        success(calls::run(&mut self.words, memory, board.map(), line_bits(lines), budget, &mut out))?;
         let [steps, cycles, cause] = out;
         let cause = match cause {
             0 => Cause::Halted,

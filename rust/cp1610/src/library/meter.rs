@@ -2,29 +2,30 @@
 
 use super::calls;
 use super::words::{success, unexpected};
-use crate::{Longest, Refusal, Region, Wait};
+use crate::{Board, Longest, Refusal, Region, Wait};
 
 /// How long a bus request waits that comes before the instruction at `address`; a limit of 0 means 57.
 ///
 /// ```
-/// use cp1610::Wait;
+/// use cp1610::{Board, Wait};
 ///
 /// let memory = [0x048, 0x04C, 0x007, 0x034]; // SLL R0; SLL R0,2; SETC; NOP
-/// assert_eq!(cp1610::wait(&memory, 0, 0)?, Wait::Wait { cycles: 24 });
-/// assert_eq!(cp1610::wait(&memory, 0, 23)?, Wait::Over);
+/// let board = Board::all_ram();
+/// assert_eq!(cp1610::wait(&memory, &board, 0, 0)?, Wait::Wait { cycles: 24 });
+/// assert_eq!(cp1610::wait(&memory, &board, 0, 23)?, Wait::Over);
 /// # Ok::<(), cp1610::Refusal>(())
 /// ```
 ///
 /// # Errors
 ///
-/// [`Refusal::MemoryTooLong`], then [`Refusal::LimitTooHigh`].
+/// [`Refusal::MemoryTooLong`], then [`Refusal::BadMap`], then [`Refusal::LimitTooHigh`].
 ///
 /// # Panics
 ///
 /// Only where [another library](crate#panics) was linked.
 #[inline]
-pub fn wait(memory: &[u16], address: u16, limit: u16) -> Result<Wait, Refusal> {
-    let answer = success(calls::wait(memory, address, limit))?;
+pub fn wait(memory: &[u16], board: &Board, address: u16, limit: u16) -> Result<Wait, Refusal> {
+    let answer = success(calls::wait(memory, board.map(), address, limit))?;
     Ok(match answer.kind {
         1 => Wait::Wait { cycles: answer.value as u16 },
         2 => Wait::Over,
@@ -37,25 +38,25 @@ pub fn wait(memory: &[u16], address: u16, limit: u16) -> Result<Wait, Refusal> {
 /// The longest wait from any address of `first..=last` and its lowest start, and the lowest start over the limit.
 ///
 /// ```
-/// use cp1610::{Longest, Region};
+/// use cp1610::{Board, Longest, Region};
 ///
 /// let memory = [0x048, 0x04C, 0x007, 0x034];
 /// let longest = Some(Longest { cycles: 18, start: 1 });
-/// assert_eq!(cp1610::region(&memory, 0, 3, 20)?, Region { longest, over: Some(0) });
+/// assert_eq!(cp1610::region(&memory, &Board::all_ram(), 0, 3, 20)?, Region { longest, over: Some(0) });
 /// # Ok::<(), cp1610::Refusal>(())
 /// ```
 ///
 /// # Errors
 ///
-/// [`Refusal::MemoryTooLong`], then [`Refusal::FirstAboveLast`], then [`Refusal::LimitTooHigh`].
+/// [`Refusal::MemoryTooLong`], then [`Refusal::BadMap`], then [`Refusal::FirstAboveLast`], then [`Refusal::LimitTooHigh`].
 ///
 /// # Panics
 ///
 /// Only where [another library](crate#panics) was linked.
 #[inline]
-pub fn region(memory: &[u16], first: u16, last: u16, limit: u16) -> Result<Region, Refusal> {
+pub fn region(memory: &[u16], board: &Board, first: u16, last: u16, limit: u16) -> Result<Region, Refusal> {
     let mut out = [0; 5];
-    success(calls::region(memory, first, last, limit, &mut out))?;
+    success(calls::region(memory, board.map(), first, last, limit, &mut out))?;
     let [has_wait, cycles, start, has_over, over] = out;
     Ok(Region {
         longest: (has_wait != 0).then_some(Longest { cycles: cycles as u16, start: start as u16 }),

@@ -28,7 +28,7 @@ pub(crate) fn success(answer: u64) -> Result<Success, Refusal> {
     Ok(Success { kind: (answer >> 32) as u32, value: answer as u32 })
 }
 
-/// The wrapper's own buffers are never short, so the refusal is one of document 01's.
+/// The wrapper's own buffers are never short and a board is always a map, so the refusal is one of document 01's.
 #[cold]
 fn refusal(number: u64) -> Refusal {
     let known = u8::try_from(number).ok().and_then(Refusal::from_number);

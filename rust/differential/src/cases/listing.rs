@@ -1,6 +1,6 @@
 //! Cases of the lister and of the assembler.
 
-use super::{memory, same, same_items, wanted};
+use super::{board, memory, same, same_items, wanted};
 use crate::kit::Kit;
 use crate::rows::{self, Fields};
 use cp1610::{Listed, TEXT_ROOM};
@@ -10,6 +10,7 @@ const BLANK: u8 = b'#';
 
 pub(super) fn list<K: Kit>(before: &mut Fields, after: &mut Fields) -> Result<(), String> {
     let (address, d) = (before.word("address", 0)?, before.bit("d", false)?);
+    let board = board::<K>(before)?;
     let (memory, mut room) = (memory(before)?, vec![BLANK; before.number("room", TEXT_ROOM)?]);
     let mut last_room = room.clone();
     let wanted = wanted(after, |answer, after| {
@@ -20,7 +21,7 @@ pub(super) fn list<K: Kit>(before: &mut Fields, after: &mut Fields) -> Result<()
         line.copy_from_slice(text);
         Ok(Some(Listed { length: text.len(), words: after.number("words", 0)?, next_d: after.bit("d", false)? }))
     })?;
-    same("answer", K::list(&memory, address, d, &mut room), wanted)?;
+    same("answer", K::list(&memory, &board, address, d, &mut room), wanted)?;
     same_items("room", &room, &last_room)
 }
 

@@ -1,13 +1,13 @@
 //! Cases of the wait meter.
 
-use super::{memory, same, wanted};
+use super::{board, memory, same, wanted};
 use crate::kit::Kit;
 use crate::rows::{self, Fields};
 use cp1610::{Longest, Region, Wait};
 
 pub(super) fn wait<K: Kit>(before: &mut Fields, after: &mut Fields) -> Result<(), String> {
     let (address, limit) = (before.word("address", 0)?, before.number("limit", 0)?);
-    let memory = memory(before)?;
+    let (memory, board) = (memory(before)?, board::<K>(before)?);
     let wanted = wanted(after, |answer, after| {
         Ok(Some(match answer {
             "wait" => Wait::Wait { cycles: after.number("cycles", 0)? },
@@ -17,19 +17,19 @@ pub(super) fn wait<K: Kit>(before: &mut Fields, after: &mut Fields) -> Result<()
             _ => return Ok(None),
         }))
     })?;
-    same("answer", K::wait(&memory, address, limit), wanted)
+    same("answer", K::wait(&memory, &board, address, limit), wanted)
 }
 
 pub(super) fn region<K: Kit>(before: &mut Fields, after: &mut Fields) -> Result<(), String> {
     let (first, last, limit) = (before.word("first", 0)?, before.word("last", 0)?, before.number("limit", 0)?);
-    let memory = memory(before)?;
+    let (memory, board) = (memory(before)?, board::<K>(before)?);
     let wanted = wanted(after, |answer, after| {
         if answer != "found" {
             return Ok(None);
         }
         Ok(Some(Region { longest: longest(after)?, over: after.read_as("over", rows::word)? }))
     })?;
-    same("answer", K::region(&memory, first, last, limit), wanted)
+    same("answer", K::region(&memory, &board, first, last, limit), wanted)
 }
 
 fn longest(after: &mut Fields) -> Result<Option<Longest>, String> {

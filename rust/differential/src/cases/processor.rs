@@ -1,6 +1,6 @@
 //! Cases of the step and of the run.
 
-use super::{memory, put_words, same, same_items, wanted};
+use super::{board, memory, put_words, same, same_items, wanted};
 use crate::kit::Kit;
 use crate::rows::Fields;
 use cp1610::{Cause, Event, Lines, Mark, Run, STATE_WORDS, StateWords, Step};
@@ -48,39 +48,41 @@ fn lines(before: &mut Fields) -> Result<Lines, String> {
     Ok(Lines { intrm, busrq, external: before.word("inputs", 0)? })
 }
 
-/// The machine, the lines and the memory that a call gets, and what it has to leave.
-struct Scene {
+/// The machine, the lines, the memory and the board that a call gets, and what it has to leave.
+struct Scene<K: Kit> {
     state: StateWords,
     lines: Lines,
     memory: Vec<u16>,
+    board: K::Board,
     last_state: StateWords,
     last_memory: Vec<u16>,
 }
 
-impl Scene {
-    fn read(before: &mut Fields, after: &mut Fields) -> Result<Scene, String> {
+impl<K: Kit> Scene<K> {
+    fn read(before: &mut Fields, after: &mut Fields) -> Result<Scene<K>, String> {
         let (state_before, memory) = (state(before, &usual_state())?, memory(before)?);
         let mut last_memory = memory.clone();
         put_words(&mut last_memory, after)?;
         let last_state = state(after, &state_before)?;
-        Ok(Scene { state: state_before, lines: lines(before)?, memory, last_state, last_memory })
+        let (lines, board) = (lines(before)?, board::<K>(before)?);
+        Ok(Scene { state: state_before, lines, memory, board, last_state, last_memory })
     }
 
     /// Makes a call, and compares what it answers and leaves.
-    fn compare<K: Kit, T: PartialEq + std::fmt::Debug>(
+    fn compare<T: PartialEq + std::fmt::Debug>(
         mut self,
-        call: impl FnOnce(&mut K::Machine, &mut [u16], Lines) -> T,
+        call: impl FnOnce(&mut K::Machine, &mut [u16], &K::Board, Lines) -> T,
         wanted: T,
     ) -> Result<(), String> {
         let mut machine = K::from_words(&self.state);
-        same("answer", call(&mut machine, &mut self.memory, self.lines), wanted)?;
+        same("answer", call(&mut machine, &mut self.memory, &self.board, self.lines), wanted)?;
         same("state", K::to_words(&machine), self.last_state)?;
         same_items("memory", &self.memory, &self.last_memory)
     }
 }
 
 pub(super) fn step<K: Kit>(before: &mut Fields, after: &mut Fields) -> Result<(), String> {
-    let scene = Scene::read(before, after)?;
+    let scene = Scene::<K>::read(before, after)?;
     let wanted = wanted(after, |answer, after| {
         let event = match answer {
             "granted" => Event::Granted,
@@ -90,11 +92,11 @@ pub(super) fn step<K: Kit>(before: &mut Fields, after: &mut Fields) -> Result<()
         };
         Ok(Some(Step { event, cycles: after.number("cycles", 0)? }))
     })?;
-    scene.compare::<K, _>(K::step, wanted)
+    scene.compare(K::step, wanted)
 }
 
 pub(super) fn run<K: Kit>(before: &mut Fields, after: &mut Fields) -> Result<(), String> {
-    let (scene, budget) = (Scene::read(before, after)?, before.number("budget", 0)?);
+    let (scene, budget) = (Scene::<K>::read(before, after)?, before.number("budget", 0)?);
     let wanted = wanted(after, |answer, after| {
         let cause = match answer {
             "halted" => Cause::Halted,
@@ -104,5 +106,5 @@ pub(super) fn run<K: Kit>(before: &mut Fields, after: &mut Fields) -> Result<(),
         };
         Ok(Some(Run { steps: after.number("steps", 0)?, cycles: after.number("cycles", 0)?, cause }))
     })?;
-    scene.compare::<K, _>(|machine, memory, lines| K::run(machine, memory, lines, budget), wanted)
+    scene.compare(|machine, memory, board, lines| K::run(machine, memory, board, lines, budget), wanted)
 }
