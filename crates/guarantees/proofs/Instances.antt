@@ -9,7 +9,7 @@ use lib.ListN.{getD}
 use borrow.Author.Needs.{needs}
 use Rattle.word.specs.Word.{wrapAdd}
 use Rattle.memory.specs.Memory.{peekOf, pokeOf}
-use Rattle.memory.specs.Map.{holds, partAt, badMap}
+use Rattle.memory.specs.Map.{holds, cellAt, badMap}
 use Rattle.memory.specs.Bus.{Bus, readOf, storeOf, admissionOf}
 use Rattle.memory.specs.Laws.{AgreeAt}
 use Rattle.decode.specs.Decode.{controlInstruction, statusInstruction, lowInstruction, instructionOf, isUnspecified, decodeAt}
@@ -76,7 +76,7 @@ changed-word : {rest : Type 0} → _≡_ {A = ℕ} 0x1034 0x34 × rest → ⊥
 changed-word e = omega (arith, e .0)
 
 pub not-empty : NotEmpty
-unfolding holds partAt wrapAdd peekOf pokeOf readOf storeOf badMap admissionOf controlInstruction statusInstruction lowInstruction instructionOf isUnspecified decodeAt interruptibleEntry plainEntry controlEntry registerEntry branchCycles branchEntry memoryWords storeEntry decodingReads seenBy conditionHolds isTaken branch begun noted planOf granted executionWords executedFrom executed admittedAction actionOf stepOf stepsFrom cyclesOfAll limitOf startAt placeAfter rowTurn turnAt walkBy walkOn walkFrom longerThan lowerThan longestBy lowestBy waitOf namedOf regionOf readsBy readsOn readsFrom grants beforeGrant
+unfolding holds cellAt wrapAdd peekOf pokeOf readOf storeOf badMap admissionOf controlInstruction statusInstruction lowInstruction instructionOf isUnspecified decodeAt interruptibleEntry plainEntry controlEntry registerEntry branchCycles branchEntry memoryWords storeEntry decodingReads seenBy conditionHolds isTaken branch begun noted planOf granted executionWords executedFrom executed admittedAction actionOf stepOf stepsFrom cyclesOfAll limitOf startAt placeAfter rowTurn turnAt walkBy walkOn walkFrom longerThan lowerThan longestBy lowestBy waitOf namedOf regionOf readsBy readsOn readsFrom grants beforeGrant
 not-empty =
     record {
       opcode = record { premises = record { stands = search needs; low = search needs; unstored = unstored _ _ refl }; answers = refl; granted = refl; after = refl };

@@ -51,18 +51,18 @@ abbrev pub storing : Bus
 storing = busOf (0x248 ∷ 0x034 ∷ [])
 
 -- a board of one kind over all addresses
-abbrev pub boardOf : Kind → Board
-boardOf k = record { ranges = replicate 16 (record { first = 0; last = 0xFFFF; kind = k }); count = 1 }
+abbrev pub boardOfKind : Kind → Board
+boardOfKind k = record { ranges = replicate 16 (record { first = 0; last = 0xFFFF; kind = k }); count = 1 }
 
 -- the same words as cartridge ROM and as 8-bit RAM; and with a high byte loaded into NOP's word, which the opcode does not count
 abbrev pub storing-rom : Bus
-storing-rom = busOn (boardOf Rom) (0x248 ∷ 0x034 ∷ [])
+storing-rom = busOn (boardOfKind Rom) (0x248 ∷ 0x034 ∷ [])
 
 abbrev pub storing-ram8 : Bus
-storing-ram8 = busOn (boardOf Ram8) (0x248 ∷ 0x034 ∷ [])
+storing-ram8 = busOn (boardOfKind Ram8) (0x248 ∷ 0x034 ∷ [])
 
 abbrev pub storing-loaded : Bus
-storing-loaded = busOn (boardOf Ram8) (0x248 ∷ 0x1034 ∷ [])
+storing-loaded = busOn (boardOfKind Ram8) (0x248 ∷ 0x1034 ∷ [])
 
 -- CLRC and BC
 abbrev pub branching : Bus

@@ -12,19 +12,19 @@ use Rattle.memory.specs.declared.Admission.the-variants.{Admitted}
 use Rattle.memory.specs.declared.map.Board.{Board}
 use Rattle.memory.specs.declared.map.Found.the-variants.{Nowhere, In}
 use Rattle.memory.specs.Memory.{peekOf, pokeOf}
-use Rattle.memory.specs.Map.{holds, partIn, ram16, empty, partAt, readAs, storeAs, badMap, wholeRam, allRam}
+use Rattle.memory.specs.Map.{holds, cellIn, ram16, empty, cellAt, readAs, storeAs, badMap, wholeRam, allRam}
 use Rattle.memory.specs.Bus.{busOf, onBoard, busOn, readOf, storeOf, admissionOf}
 use Rattle.memory.specs.Laws.{AllRam, AllRamLaws}
 use Rattle.memory.proofs.BusLaws.{let-in}
 
 -- the one range of an all-RAM map decides by its last address alone
-part-by : (t : Bool) → partIn (cond t (In wholeRam) Nowhere) ≡ cond t ram16 empty
-part-by true = refl
-part-by false = refl
+cell-by : (t : Bool) → cellIn (cond t (In wholeRam) Nowhere) ≡ cond t ram16 empty
+cell-by true = refl
+cell-by false = refl
 
-decided : (b : Board) → AllRam b → (a : ℕ) → partAt b a ≡ cond (leb a 0xFFFF) ram16 empty
-unfolding partAt holds
-decided b h a = rw (h .whole, le-leb 0 a (omega arith)) (part-by (leb a 0xFFFF))
+decided : (b : Board) → AllRam b → (a : ℕ) → cellAt b a ≡ cond (leb a 0xFFFF) ram16 empty
+unfolding cellAt holds
+decided b h a = rw (h .whole, le-leb 0 a (omega arith)) (cell-by (leb a 0xFFFF))
 
 read-by : (m : List ℕ) (a : ℕ) (t : Bool) → leb a 0xFFFF ≡ t → length m ≤ 65536 → readAs (cond t ram16 empty) m a ≡ peekOf m a
 unfolding peekOf

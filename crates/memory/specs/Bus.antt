@@ -8,7 +8,7 @@ use Rattle.memory.specs.declared.Admission.{Admission}
 use Rattle.memory.specs.declared.Admission.the-variants.{Admitted, Barred}
 use Rattle.memory.specs.declared.map.Board.{Board}
 use Rattle.memory.specs.Memory.{peekOf, pokeOf, tooLong}
-use Rattle.memory.specs.Map.{partAt, readAs, storeAs, badMap}
+use Rattle.memory.specs.Map.{cellAt, readAs, storeAs, badMap}
 
 -- how the words are reached: plainly, at every address the lent word there, or by a board's map
 pub data Access : Type 0 where
@@ -34,7 +34,7 @@ busOn b m = onBoard b (busOf m)
 -- the word read at an address
 abbrev pub readBy : Access → List ℕ → ℕ → ℕ
 readBy plain m a = peekOf m a
-readBy (mapped b) m a = readAs (partAt b a) m a
+readBy (mapped b) m a = readAs (cellAt b a) m a
 
 unfoldable pub readOf : Bus → ℕ → ℕ
 readOf s a = readBy (s .access) (s .words) a
@@ -42,7 +42,7 @@ readOf s a = readBy (s .access) (s .words) a
 -- the bus after a word was stored at an address
 abbrev pub storeBy : Access → List ℕ → ℕ → ℕ → List ℕ
 storeBy plain m a w = pokeOf m a w
-storeBy (mapped b) m a w = storeAs (partAt b a) m a w
+storeBy (mapped b) m a w = storeAs (cellAt b a) m a w
 
 unfoldable pub storeOf : Bus → ℕ → ℕ → Bus
 storeOf s a w = record { words = storeBy (s .access) (s .words) a w; access = s .access }

@@ -6,11 +6,12 @@ use mathlib.Core.List.{List, [], _∷_}
 use lib.Dec.{ltb}
 use lib.ListN.{length}
 use Rattle.refusal.specs.Report.{OneToOne}
-use Rattle.memory.specs.declared.Admission.the-variants.{Admitted}
+use Rattle.refusal.specs.declared.Refusal.the-variants.{MemoryTooLong, BadMap}
+use Rattle.memory.specs.declared.Admission.the-variants.{Admitted, Barred}
 use Rattle.memory.specs.declared.map.Range.{Range}
 use Rattle.memory.specs.declared.map.Board.{Board}
-use Rattle.memory.specs.Memory.{peekOf, pokeOf}
-use Rattle.memory.specs.Map.{Part, rom, ram16, ram8, empty, rangesOf, partAt, badMap, wholeRam, allRam}
+use Rattle.memory.specs.Memory.{peekOf, pokeOf, tooLong}
+use Rattle.memory.specs.Map.{Cell, rom, ram16, ram8, empty, rangesOf, cellAt, badMap, wholeRam, allRam}
 use Rattle.memory.specs.Bus.{Access, plain, mapped, Bus, busOf, onBoard, busOn, readOf, storeOf, admissionOf}
 use Rattle.memory.specs.Near.{inFront, noRange, nearOf, Near}
 
@@ -36,7 +37,7 @@ AgreeAt [] s t = Unit
 AgreeAt (a ∷ rest) s t = (readOf s a ≡ readOf t a) × AgreeAt rest s t
 
 -- whether a store to an address changes a word: it is RAM, and lies within the lent memory
-abbrev pub isRam : Part → Bool
+abbrev pub isRam : Cell → Bool
 isRam rom = false
 isRam ram16 = true
 isRam ram8 = true
@@ -44,7 +45,7 @@ isRam empty = false
 
 abbrev pub isStorable : Access → ℕ → Bool
 isStorable plain a = true
-isStorable (mapped b) a = isRam (partAt b a)
+isStorable (mapped b) a = isRam (cellAt b a)
 
 unfoldable pub takesStore : Bus → ℕ → Bool
 takesStore s a = isStorable (s .access) a && ltb a (length (s .words))
@@ -64,6 +65,12 @@ pub record BusLaws : Type 0 where
   pub keeps-admission : (s : Bus) (a w : ℕ) → admissionOf (storeOf s a w) ≡ admissionOf s
   pub keeps-words : (s : Bus) (a w : ℕ) → BusWords s → w < 65536 → BusWords (storeOf s a w)
 
+-- who is let in, in the order in which it is asked: 1, and 14 "directly after 1 in every call that takes a map"
+pub record AdmissionLaws : Type 0 where
+  pub length-first : (b : Board) (m : List ℕ) → tooLong m ≡ true → admissionOf (busOn b m) ≡ Barred MemoryTooLong
+  pub map-after : (b : Board) (m : List ℕ) → tooLong m ≡ false → badMap b ≡ true → admissionOf (busOn b m) ≡ Barred BadMap
+  pub lets-in : (b : Board) (m : List ℕ) → tooLong m ≡ false → badMap b ≡ false → admissionOf (busOn b m) ≡ Admitted
+
 -- a bus on a board, and what a store to it leaves: the lent words after it, of which at most the one stored to is another
 pub record OnBoard (b : Board) (s : Bus) : Type 0 where
   pub words : List ℕ
@@ -71,17 +78,17 @@ pub record OnBoard (b : Board) (s : Bus) : Type 0 where
 
 pub record MapLaws : Type 0 where
   -- "an empty word reads $FFFF, and other reads give the lent word", also an 8-bit word's high byte
-  pub reads-empty : (b : Board) (m : List ℕ) (a : ℕ) → partAt b a ≡ empty → readOf (busOn b m) a ≡ 0xFFFF
-  pub reads-rom : (b : Board) (m : List ℕ) (a : ℕ) → partAt b a ≡ rom → readOf (busOn b m) a ≡ peekOf m a
-  pub reads-ram16 : (b : Board) (m : List ℕ) (a : ℕ) → partAt b a ≡ ram16 → readOf (busOn b m) a ≡ peekOf m a
-  pub reads-ram8 : (b : Board) (m : List ℕ) (a : ℕ) → partAt b a ≡ ram8 → readOf (busOn b m) a ≡ peekOf m a
+  pub reads-empty : (b : Board) (m : List ℕ) (a : ℕ) → cellAt b a ≡ empty → readOf (busOn b m) a ≡ 0xFFFF
+  pub reads-rom : (b : Board) (m : List ℕ) (a : ℕ) → cellAt b a ≡ rom → readOf (busOn b m) a ≡ peekOf m a
+  pub reads-ram16 : (b : Board) (m : List ℕ) (a : ℕ) → cellAt b a ≡ ram16 → readOf (busOn b m) a ≡ peekOf m a
+  pub reads-ram8 : (b : Board) (m : List ℕ) (a : ℕ) → cellAt b a ≡ ram8 → readOf (busOn b m) a ≡ peekOf m a
   -- "A store to ROM or to an empty word does nothing", nor does one past the memory: every lent word stays, and so every read
-  pub keeps-rom : (b : Board) (m : List ℕ) (a w : ℕ) → partAt b a ≡ rom → storeOf (busOn b m) a w ≡ busOn b m
-  pub keeps-empty : (b : Board) (m : List ℕ) (a w : ℕ) → partAt b a ≡ empty → storeOf (busOn b m) a w ≡ busOn b m
+  pub keeps-rom : (b : Board) (m : List ℕ) (a w : ℕ) → cellAt b a ≡ rom → storeOf (busOn b m) a w ≡ busOn b m
+  pub keeps-empty : (b : Board) (m : List ℕ) (a w : ℕ) → cellAt b a ≡ empty → storeOf (busOn b m) a w ≡ busOn b m
   pub keeps-past : (b : Board) (m : List ℕ) (a w : ℕ) → length m ≤ a → storeOf (busOn b m) a w ≡ busOn b m
   -- within the lent memory a store to 16-bit RAM reads back, and one to 8-bit RAM "keeps the low byte (high byte 0)"
-  pub reads-back : (b : Board) (m : List ℕ) (a w : ℕ) → a < length m → partAt b a ≡ ram16 → readOf (storeOf (busOn b m) a w) a ≡ w
-  pub reads-back-low : (b : Board) (m : List ℕ) (a w : ℕ) → a < length m → partAt b a ≡ ram8 → readOf (storeOf (busOn b m) a w) a ≡ w % 256
+  pub reads-back : (b : Board) (m : List ℕ) (a w : ℕ) → a < length m → cellAt b a ≡ ram16 → readOf (storeOf (busOn b m) a w) a ≡ w
+  pub reads-back-low : (b : Board) (m : List ℕ) (a w : ℕ) → a < length m → cellAt b a ≡ ram8 → readOf (storeOf (busOn b m) a w) a ≡ w % 256
   -- a store leaves lent words on the same board, as many as before, and each but the one stored to as it was
   pub lent-after : (b : Board) (m : List ℕ) (a w : ℕ) → OnBoard b (storeOf (busOn b m) a w)
   pub keeps-length : (b : Board) (m n : List ℕ) (a w : ℕ) → storeOf (busOn b m) a w ≡ busOn b n → length n ≡ length m

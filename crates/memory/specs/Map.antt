@@ -34,36 +34,36 @@ deciding [] a = Nowhere
 deciding (r ∷ rest) a = cond (holds r a) (In r) (deciding rest a)
 
 -- what a word of the memory is
-pub data Part : Type 0 where
-  rom : Part
-  ram16 : Part
-  ram8 : Part
-  empty : Part
+pub data Cell : Type 0 where
+  rom : Cell
+  ram16 : Cell
+  ram8 : Cell
+  empty : Cell
 
 -- "each ROM, 16-bit RAM or 8-bit RAM"
-abbrev pub partOf : Kind → Part
-partOf Rom = rom
-partOf Ram16 = ram16
-partOf Ram8 = ram8
+abbrev pub cellOf : Kind → Cell
+cellOf Rom = rom
+cellOf Ram16 = ram16
+cellOf Ram8 = ram8
 
 -- "unmatched words empty"
-abbrev pub partIn : Found → Part
-partIn Nowhere = empty
-partIn (In r) = partOf (r .kind)
+abbrev pub cellIn : Found → Cell
+cellIn Nowhere = empty
+cellIn (In r) = cellOf (r .kind)
 
 -- what the word at an address is
-unfoldable pub partAt : Board → ℕ → Part
-partAt b a = partIn (deciding (rangesOf b) a)
+unfoldable pub cellAt : Board → ℕ → Cell
+cellAt b a = cellIn (deciding (rangesOf b) a)
 
 -- "an empty word reads $FFFF, and other reads give the lent word"
-abbrev pub readAs : Part → List ℕ → ℕ → ℕ
+abbrev pub readAs : Cell → List ℕ → ℕ → ℕ
 readAs rom m a = peekOf m a
 readAs ram16 m a = peekOf m a
 readAs ram8 m a = peekOf m a
 readAs empty m a = 0xFFFF
 
 -- "A store to ROM or to an empty word does nothing, a store to an 8-bit word keeps the low byte (high byte 0)"
-abbrev pub storeAs : Part → List ℕ → ℕ → ℕ → List ℕ
+abbrev pub storeAs : Cell → List ℕ → ℕ → ℕ → List ℕ
 storeAs rom m a w = m
 storeAs ram16 m a w = pokeOf m a w
 storeAs ram8 m a w = pokeOf m a (w % 256)

@@ -9,7 +9,7 @@ use Rattle.memory.specs.declared.map.Range.{Range}
 use Rattle.memory.specs.declared.map.Board.{Board}
 use Rattle.memory.specs.declared.map.Found.{Found}
 use Rattle.memory.specs.declared.map.Found.the-variants.{Nowhere, In}
-use Rattle.memory.specs.Map.{holds, rangesOf, deciding, Part, rom, ram16, ram8, empty, partAt}
+use Rattle.memory.specs.Map.{holds, rangesOf, deciding, Cell, rom, ram16, ram8, empty, cellAt}
 
 -- the board with a range at hand in front of its map
 abbrev pub inFront : Range → Board → Board
@@ -27,7 +27,7 @@ rangeIn (In r) = r
 unfoldable pub nearOf : Board → Range → ℕ → Range
 nearOf b near a = cond (holds near a) near (rangeIn (deciding (rangesOf b) a))
 
-abbrev pub isEmpty : Part → Bool
+abbrev pub isEmpty : Cell → Bool
 isEmpty rom = false
 isEmpty ram16 = false
 isEmpty ram8 = false
@@ -35,4 +35,4 @@ isEmpty empty = true
 
 -- no word of the range is empty
 abbrev pub Near : Board → Range → Type 0
-Near b r = (a : ℕ) → holds r a ≡ true → isEmpty (partAt b a) ≡ false
+Near b r = (a : ℕ) → holds r a ≡ true → isEmpty (cellAt b a) ≡ false
