@@ -11,7 +11,6 @@ use lib.Seq.{take-at}
 use Rattle.word.proofs.Choice.{cond-both}
 use Rattle.memory.specs.Map.{listedIn}
 use Rattle.memory.specs.Bus.{Bus, readOf, admissionOf}
-use Rattle.memory.specs.Laws.{AllRam}
 use Rattle.memory.proofs.BusLaws.{unless-both}
 use Rattle.refusal.specs.Report.{Report, answered}
 use Rattle.cpu.specs.Machine.{Machine, resetMachine}
@@ -50,7 +49,7 @@ use Rattle.cp1610.specs.Read.{
   readListing,
   readAssembled,
 }
-use Rattle.cp1610.specs.Laws.{ReadsTheAnswer, HasText, ReadsTheText, ShortestAreWellLent}
+use Rattle.cp1610.specs.Laws.{ReadsTheAnswer, HasText, ReadsTheText, HeaderMap, ShortestAreWellLent}
 use Rattle.cp1610.proofs.AnswerLaws.{set-flag, unpacks-packed, success-high, success-kind, success-value, success-count}
 use Rattle.cp1610.proofs.RuleLaws.{Told, by-told}
 use Rattle.cp1610.proofs.ReportLaws.{
@@ -196,18 +195,13 @@ reads-the-answer (cp1610-load board mem file) h =
 reads-the-answer (cp1610-write board mem first last room) h =
     read-counted (λ r left. record { answer = r; room = left }) _ _ _ _ (told-writing board mem first last room refl)
 
--- the words of two maps
+pub header-map : HeaderMap
+unfolding isMap kindsTo boardOf rangesTo rangeAt listedIn
+header-map = record { is-map = refl; all-ram = record { one = refl; whole = refl } }
+
 no-ranges : isMap [] ≡ true
 unfolding isMap kindsTo listedIn
 no-ranges = refl
-
-one-range : isMap allRamWords ≡ true
-unfolding isMap kindsTo listedIn
-one-range = refl
-
-all-ram-board : AllRam (boardOf allRamWords)
-unfolding boardOf rangesTo rangeAt listedIn
-all-ram-board = record { one = refl; whole = refl }
 
 pub shortest-are-well-lent : ShortestAreWellLent
 shortest-are-well-lent =
@@ -219,6 +213,4 @@ shortest-are-well-lent =
       region = λ mem first last limit. (lit≤ tt, no-ranges);
       list = λ mem address d text. (lit≤ tt, no-ranges);
       assemble = λ line d. lit≤ tt;
-      all-ram = all-ram-board;
-      all-ram-map = one-range;
     }

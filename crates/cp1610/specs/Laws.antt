@@ -55,8 +55,12 @@ ReadsTheText =
     WellLent (cp1610-list mem map address d text out) →
     HasText (textAt (readOf (onMap map mem)) address (isSet d)) (readListing (callOf (cp1610-list mem map address d text out)))
 
--- the premise can be met: each function that has one, with the shortest buffers that are long enough and the map of no range; and the map of one
--- 16-bit range over all addresses, which the header names, is that of an all-RAM board
+-- the header's map of one 16-bit range over all addresses is a map, and an all-RAM board's
+pub record HeaderMap : Type 0 where
+  pub is-map : isMap allRamWords ≡ true
+  pub all-ram : AllRam (boardOf allRamWords)
+
+-- the premise can be met: each function that has one, with the shortest buffers that are long enough and the map of no range
 pub record ShortestAreWellLent : Type 0 where
   pub reset : WellLent (cp1610-reset (replicate stateLength 0))
   pub step : (mem : List ℕ) (lines : ℕ) → WellLent (cp1610-step (replicate stateLength 0) mem [] lines)
@@ -65,8 +69,6 @@ pub record ShortestAreWellLent : Type 0 where
   pub region : (mem : List ℕ) (first last limit : ℕ) → WellLent (cp1610-region mem [] first last limit (replicate regionLength 0))
   pub list : (mem : List ℕ) (address d : ℕ) (text : List ℕ) → WellLent (cp1610-list mem [] address d text (replicate listLength 0))
   pub assemble : (line : List ℕ) (d : ℕ) → WellLent (cp1610-assemble line d (replicate lineWords 0))
-  pub all-ram : AllRam (boardOf allRamWords)
-  pub all-ram-map : isMap allRamWords ≡ true
 
 -- calls of a step one after the other with the same buffers, one for each of the numbers that stand for lines
 unfoldable pub callsFrom : List ℕ → List ℕ → Bus → List ℕ → List Called

@@ -11,7 +11,7 @@ use lib.Seq.{take-all, take-suc-set}
 use Rattle.memory.specs.declared.map.Range.{Range}
 use Rattle.harness.specs.Text.{partBefore, partBehind, standsIn}
 use Rattle.harness.specs.Forms.{isRange, areRanges}
-use Rattle.harness.specs.Maps.{rangeIn, rangesIn, countIn}
+use Rattle.harness.specs.Maps.{rangeWritten, rangesWritten, countWritten}
 
 module _ (n i : ℕ) (rest : List ℕ) where
   -- one range more
@@ -37,16 +37,16 @@ module _ (n i : ℕ) (rest : List ℕ) where
         let e : n - i ≡ suc (n - (i + 1)) = omega arith in
         rw (e, f, s)
 
-    pub count-last : standsIn (code ",") rest ≡ false → i + 1 ≡ i + countIn (n - i) rest
-    unfolding countIn
+    pub count-last : standsIn (code ",") rest ≡ false → i + 1 ≡ i + countWritten (n - i) rest
+    unfolding countWritten
     count-last s =
         let e : n - i ≡ suc (n - (i + 1)) = omega arith in
         rw (e, s)
 
     pub count-more :
         standsIn (code ",") rest ≡ true →
-        i + 1 + countIn (n - (i + 1)) (partBehind (code ",") rest) ≡ i + countIn (n - i) rest
-    unfolding countIn
+        i + 1 + countWritten (n - (i + 1)) (partBehind (code ",") rest) ≡ i + countWritten (n - i) rest
+    unfolding countWritten
     count-more s =
         let e : n - i ≡ suc (n - (i + 1)) = omega arith in
         rw (e, s) (omega arith)
@@ -54,9 +54,9 @@ module _ (n i : ℕ) (rest : List ℕ) where
     pub range-put :
         (ranges : List Range) →
         i < length ranges →
-        take (i + 1) (set ranges i (rangeIn (partBefore (code ",") rest))) ++ rangesIn (n - (i + 1)) (partBehind (code ",") rest)
-        ≡ take i ranges ++ rangesIn (n - i) rest
-    unfolding rangesIn
+        take (i + 1) (set ranges i (rangeWritten (partBefore (code ",") rest))) ++ rangesWritten (n - (i + 1)) (partBehind (code ",") rest)
+        ≡ take i ranges ++ rangesWritten (n - i) rest
+    unfolding rangesWritten
     range-put ranges k =
         let e : n - i ≡ suc (n - suc i) = omega arith in
         rw (add-one, e, take-suc-set ranges i _ k, append-assoc)
@@ -69,14 +69,14 @@ module _ (n i : ℕ) (rest : List ℕ) where
         let e : n - i ≡ 0 = omega arith in
         rw e
 
-    pub count-whole : i ≡ i + countIn (n - i) rest
-    unfolding countIn
+    pub count-whole : i ≡ i + countWritten (n - i) rest
+    unfolding countWritten
     count-whole =
         let e : n - i ≡ 0 = omega arith in
         rw e (omega arith)
 
-    pub ranges-whole : (ranges : List Range) → length ranges ≤ i → ranges ≡ take i ranges ++ rangesIn (n - i) rest
-    unfolding rangesIn
+    pub ranges-whole : (ranges : List Range) → length ranges ≤ i → ranges ≡ take i ranges ++ rangesWritten (n - i) rest
+    unfolding rangesWritten
     ranges-whole ranges k =
         let e : n - i ≡ 0 = omega arith in
         rw (e, take-all i ranges k, append-nil)

@@ -55,8 +55,8 @@ areRanges (suc n) value =
     isRange (partBefore (code ",") value) && cond (standsIn (code ",") value) (areRanges n (partBehind (code ",") value)) true
 
 -- .. or `none`; one range more can be written than a board takes
-abbrev pub isMap : List ℕ → Bool
-isMap value = equalText value (quoted "none") || areRanges 17 value
+abbrev pub isMapText : List ℕ → Bool
+isMapText value = equalText value (quoted "none") || areRanges 17 value
 
 unfoldable pub withoutFirst : List ℕ → ℕ → List ℕ
 withoutFirst value letter = cond (eqb (getD value 0 0) letter) (drop 1 value) value
@@ -79,7 +79,7 @@ hasForm value form =
     || (eqb letter (code "n") && isNumber value))
     || (eqb letter (code "b") && isBit value))
     || (eqb letter (code "h") && isHex value))
-    || (eqb letter (code "m") && isMap value))
+    || (eqb letter (code "m") && isMapText value))
     || eqb letter (code "a"))
     || ((leb (code "A") letter && leb letter (code "Z")) && areLetters value form))
 

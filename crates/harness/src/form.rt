@@ -14,7 +14,7 @@
 // The key `0000` stands for every key of four hexadecimal digits.
 ghost use mathlib.Core.Path.{_≡_};
 ghost use Rattle.harness.specs.Forms.{isWord, fitsColumn, isList, isNumber, isBit, isHex};
-ghost use Rattle.harness.specs.Forms.{isRangeKind, isRange, areRanges, isMap};
+ghost use Rattle.harness.specs.Forms.{isRangeKind, isRange, areRanges, isMapText};
 ghost use Rattle.harness.specs.Forms.{withoutFirst, arePicked, areLetters, hasForm, firstKey, formOfKey, firstFits, fitForm};
 use crate::fields;
 use crate::text;
@@ -112,7 +112,7 @@ fn are_ranges(value: &[u8]) -> bool
 }
 
 fn is_map(value: &[u8]) -> bool
-    ensures { λ r. ⌜ r ≡ isMap (now (value .entry)) ⌝ }
+    ensures { λ r. ⌜ r ≡ isMapText (now (value .entry)) ⌝ }
 {
     text::same(value, b"none") | are_ranges(value)
 }

@@ -1,7 +1,7 @@
 // The board whose map a field writes: `map=0000-00EF:ram8,5000-6FFF:rom`, ranges with commas between them, each by its first address, its
 // last and its kind, rom, ram16 or ram8; `map=none`, a map without ranges. Values are in the form `map` of `form`.
 ghost use mathlib.Core.Path.{_≡_};
-ghost use Rattle.harness.specs.Maps.{kindIn, rangeIn, rangesIn, countIn, boardIn, boardOfKey};
+ghost use Rattle.harness.specs.Maps.{kindWritten, rangeWritten, rangesWritten, countWritten, boardWritten, boardOfKey};
 use crate::fields;
 use crate::text;
 use memory::map::Board;
@@ -11,7 +11,7 @@ use memory::map::Range;
 const BOARD_RANGES: usize = 16;
 
 fn kind_in(value: &[u8]) -> Kind
-    ensures { λ r. ⌜ r ≡ kindIn (now (value .entry)) ⌝ }
+    ensures { λ r. ⌜ r ≡ kindWritten (now (value .entry)) ⌝ }
 {
     if text::same(value, b"rom") {
         return Kind::Rom;
@@ -25,7 +25,7 @@ fn kind_in(value: &[u8]) -> Kind
 
 // The range that `0100-01FF:ram16` writes.
 fn range_in(value: &[u8]) -> Range
-    ensures { λ r. ⌜ r ≡ rangeIn (now (value .entry)) ⌝ }
+    ensures { λ r. ⌜ r ≡ rangeWritten (now (value .entry)) ⌝ }
 {
     let behind = text::behind(value, b'-');
     let kind = kind_in(text::behind(behind, b':'));
@@ -39,7 +39,7 @@ fn range_in(value: &[u8]) -> Range
 // As many ranges as a board has room for. Those behind the last one written are of an empty text, word 0 as 16-bit RAM, and not listed: a call that
 // looks at them differs at word 0.
 fn ranges_in(list: &[u8]) -> [Range; 16]
-    ensures { λ r. ⌜ r ≡ rangesIn 16 (now (list .entry)) ⌝ }
+    ensures { λ r. ⌜ r ≡ rangesWritten 16 (now (list .entry)) ⌝ }
 {
     let mut ranges = [memory::near::no_range(); BOARD_RANGES];
     let mut rest = list;
@@ -55,7 +55,7 @@ fn ranges_in(list: &[u8]) -> [Range; 16]
 
 // How many ranges are written; from one more than a board takes on they are not counted.
 fn count_in(list: &[u8]) -> usize
-    ensures { λ r. ⌜ r ≡ countIn 17 (now (list .entry)) ⌝ }
+    ensures { λ r. ⌜ r ≡ countWritten 17 (now (list .entry)) ⌝ }
 {
     let mut rest = list;
     let mut i = 0;
@@ -71,7 +71,7 @@ fn count_in(list: &[u8]) -> usize
 }
 
 fn board_in(value: &[u8]) -> Board
-    ensures { λ r. ⌜ r ≡ boardIn (now (value .entry)) ⌝ }
+    ensures { λ r. ⌜ r ≡ boardWritten (now (value .entry)) ⌝ }
 {
     let ranges = ranges_in(value);
     let count = if text::same(value, b"none") {

@@ -5,12 +5,12 @@ use native.Mathlib.Omega.{arith}
 use borrow.Author.Tests.{not-true, not-false}
 use Rattle.harness.proofs.RangeLaws.{count-last, count-more, count-whole}
 use borrow.Author.Needs.{needs}
-use Rattle.harness.specs.Maps.{countIn}
+use Rattle.harness.specs.Maps.{countWritten}
 use Rattle.harness.proofs.map.count_in.Statement.{statement}
 use Rattle.harness.proofs.map.count_in.Tie as tie
 
 abbrev Inv-loop : tie.InvT-loop
-Inv-loop list rest₀ i₀ rest i = (i ≤ 17) × (i + countIn (17 - i) rest ≡ countIn 17 list)
+Inv-loop list rest₀ i₀ rest i = (i ≤ 17) × (i + countWritten (17 - i) rest ≡ countWritten 17 list)
 
 abbrev μ-loop : tie.MeasureT-loop
 μ-loop list rest₀ i₀ rest i = 17 - i

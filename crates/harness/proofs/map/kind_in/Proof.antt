@@ -1,21 +1,21 @@
 -- `kind_in`: by the words, one after the other.
 use borrow.Author.Needs.{needs}
-use Rattle.harness.specs.Maps.{kindIn}
+use Rattle.harness.specs.Maps.{kindWritten}
 use Rattle.harness.proofs.map.kind_in.Statement.{statement}
 use Rattle.harness.proofs.map.kind_in.Tie as tie
 
 returns : tie.Need-returns
-unfolding kindIn
+unfolding kindWritten
 returns c = rw (← c .before .same .ensures, c .if1 .taken)
 
 returns-2 : tie.Need-returns-2
-unfolding kindIn
+unfolding kindWritten
 returns-2 c =
     let first = c .before .before .before in
     rw (← first .before .same .ensures, first .if1 .left, ← c .before .same2 .ensures, c .if2 .taken)
 
 returns-3 : tie.Need-returns-3
-unfolding kindIn
+unfolding kindWritten
 returns-3 c =
     let first = c .before .before .before in
     rw (← first .before .same .ensures, first .if1 .left, ← c .before .same2 .ensures, c .if2 .left)

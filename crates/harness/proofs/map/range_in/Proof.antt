@@ -1,11 +1,11 @@
 -- `range_in`: two words, and a kind.
 use borrow.Author.Needs.{needs}
-use Rattle.harness.specs.Maps.{rangeIn}
+use Rattle.harness.specs.Maps.{rangeWritten}
 use Rattle.harness.proofs.map.range_in.Statement.{statement}
 use Rattle.harness.proofs.map.range_in.Tie as tie
 
 returns : tie.Need-returns
-unfolding rangeIn
+unfolding rangeWritten
 returns c =
     let kind = c .before .before in
     let behind = kind .before .before .behind in

@@ -6,13 +6,13 @@ use native.Mathlib.Omega.{arith}
 use lib.ListN.{length, take, length-set}
 use Rattle.harness.proofs.RangeLaws.{range-put, ranges-whole}
 use borrow.Author.Needs.{needs}
-use Rattle.harness.specs.Maps.{rangesIn}
+use Rattle.harness.specs.Maps.{rangesWritten}
 use Rattle.harness.proofs.map.ranges_in.Statement.{statement}
 use Rattle.harness.proofs.map.ranges_in.Tie as tie
 
 abbrev Inv-loop : tie.InvT-loop
 Inv-loop list ranges₀ rest₀ i₀ ranges rest i =
-    (i ≤ 16) × (length ranges ≡ 16) × (take i ranges ++ rangesIn (16 - i) rest ≡ rangesIn 16 list)
+    (i ≤ 16) × (length ranges ≡ 16) × (take i ranges ++ rangesWritten (16 - i) rest ≡ rangesWritten 16 list)
 
 abbrev μ-loop : tie.MeasureT-loop
 μ-loop list ranges₀ rest₀ i₀ ranges rest i = 16 - i
