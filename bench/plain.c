@@ -254,7 +254,7 @@ static inline struct charge execute(struct plain *p, const struct plain_board *b
         return branch_row(p, b, w, external);
     if (w >= 0x080) {
         operate(p, w, p->r[w >> 3 & 7]);
-        return heard(6);
+        return heard(w < 0x0C0 && (w & 7) >= R6 ? 7 : 6); /* MOVR into R6 or R7 */
     }
     if (w >= 0x040)
         return shift_row(p, w);

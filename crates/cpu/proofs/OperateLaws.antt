@@ -12,7 +12,7 @@ use Rattle.word.specs.Flags.{setSZ, compareOf}
 use Rattle.decode.specs.declared.Instr.the-variants.{Register, Read}
 use Rattle.decode.specs.declared.rows.Row.{Row}
 use Rattle.decode.specs.Fields.{modeOf}
-use Rattle.decode.specs.Rows.{interruptibleEntry, registerEntry, memoryWords, readWords, readCycles, readEntry}
+use Rattle.decode.specs.Rows.{interruptibleEntry, operateEntry, memoryWords, readWords, readCycles, readEntry}
 use Rattle.decode.proofs.OpcodeLaws.{by-eight}
 use Rattle.cpu.specs.declared.Status.{Status}
 use Rattle.cpu.specs.declared.change.Change.{Change}
@@ -93,14 +93,14 @@ module _ (r : List ℕ) (next v w : ℕ) (row : Row) where
 module _ (pc : ℕ) (r : List ℕ) (k : Status) where
   -- the register operates: R7 is on already
   pub register-leaves : getD r 7 0 ≡ wrapAdd pc 1 → (row s d : ℕ) → 2 ≤ row → row < 8 → s < 8 → d < 8 → (read : ℕ → ℕ) (external : ℕ) →
-      Leaves (writesTo k registerEntry pc d (registerResult row (beside (getD r d 0) (flagsIn k)) (getD r s 0))) r
+      Leaves (writesTo k (operateEntry row d) pc d (registerResult row (beside (getD r d 0) (flagsIn k)) (getD r s 0))) r
       (effectAt (Register row s d) pc r k read external .machine) (cyclesAt (Register row s d) pc r k external)
-  unfolding registerEntry interruptibleEntry
+  unfolding interruptibleEntry
   register-leaves on row s d l h hs hd read external =
-      let m : Machine = begunAt registerEntry pc r k in
+      let m : Machine = begunAt (operateEntry row d) pc r k in
       record {
         machine =
-            writes-leave k registerEntry refl refl pc d (registerResult row (beside (getD r d 0) (flagsIn k)) (getD r s 0)) r
+            writes-leave k (operateEntry row d) refl refl pc d (registerResult row (beside (getD r d 0) (flagsIn k)) (getD r s 0)) r
             ∙ ap₂ (λ (x y : ℕ). result d (registerResult row (beside x (flagsIn k)) y) m) (sym (on-is (wrapAdd pc 1) r on d hd)) (sym (on-is (wrapAdd pc 1) r on s hs))
             ∙ sym (register-row-is d (register s m) m (own-is 7 (wrapAdd pc 1) r d hd) row l h);
         costs = refl;

@@ -11,7 +11,7 @@ use Rattle.word.proofs.Choice.{cond-both}
 use Rattle.decode.specs.declared.Instr.the-variants.{Hlt, Control, Jump, Single, Gswd, Nop, Sin, Shift, Register, Branch, Store as StoreRow, Read}
 use Rattle.decode.specs.declared.rows.Row.{Row}
 use Rattle.decode.specs.Fields.{Mode, direct, through, rising, stack, immediate, modes, modeOf, isNopp, Return, noReturn, returnIn, returnOf}
-use Rattle.decode.specs.Rows.{interruptibleEntry, plainEntry, haltEntry, controlEntry, jumpEntry, registerEntry, shiftEntry, branchEntry, storeEntry, readEntry}
+use Rattle.decode.specs.Rows.{interruptibleEntry, plainEntry, haltEntry, controlEntry, jumpEntry, registerEntry, shiftEntry, operateEntry, branchEntry, storeEntry, readEntry}
 use Rattle.decode.proofs.Tables.{of-table}
 use Rattle.cpu.specs.Machine.{Running, Machine, register, result}
 use Rattle.cpu.specs.Control.{control, saveIn, jump}
@@ -142,8 +142,8 @@ goes-by-its-row (Sin n) m b l = interruptible-row registerEntry m refl refl refl
 goes-by-its-row (Shift s d) m b l =
     let p = shift-plain d in line-row (shiftEntry d) m (p .0) (p .1) _ (shift-line s d (begun (shiftEntry d) m))
 goes-by-its-row (Register n s d) m b l =
-    let k : Machine = begun registerEntry m in
-    interruptible-row registerEntry m refl refl refl _ (register-keeps (n - 2) (register s k) d k)
+    let k : Machine = begun (operateEntry n d) m in
+    interruptible-row (operateEntry n d) m refl refl refl _ (register-keeps (n - 2) (register s k) d k)
 goes-by-its-row (Branch w) m b l =
     interruptible-row (branchEntry (not (isNopp w))) m refl refl refl _ (branch-keeps w (l .external) (register 7 m) _ (begun (branchEntry (not (isNopp w))) m))
 goes-by-its-row (StoreRow s d) m b l = line-row (storeEntry s) m refl refl _ (store-line s d _ (register 7 m) (begun (storeEntry s) m))

@@ -9,7 +9,7 @@ use Rattle.decode.specs.declared.Instr.{Instr}
 use Rattle.decode.specs.declared.Instr.the-variants.{Hlt, Control, Jump, Single, Gswd, Nop, Sin, Shift, Register, Branch, Store, Read}
 use Rattle.decode.specs.declared.rows.Row.{Row}
 use Rattle.decode.specs.Fields.{isNopp}
-use Rattle.decode.specs.Rows.{interruptibleEntry, plainEntry, haltEntry, controlEntry, jumpEntry, registerEntry, shiftEntry, branchCycles, branchEntry, memoryWords, storeEntry, readCycles, readWords, readEntry, rowOf}
+use Rattle.decode.specs.Rows.{interruptibleEntry, plainEntry, haltEntry, controlEntry, jumpEntry, registerEntry, shiftEntry, operateCycles, branchCycles, branchEntry, memoryWords, storeEntry, readCycles, readWords, readEntry, rowOf}
 use Rattle.decode.specs.Laws.{RowBounds}
 
 -- a row's cycles lie from 4 to 12, and its words from 1 to 3
@@ -38,7 +38,7 @@ read-costs s double =
     (cond-both P (eqb s 6) (lit≤ tt, lit≤ tt) (cond-both P double (lit≤ tt, lit≤ tt) (lit≤ tt, lit≤ tt)))
 
 row-bounded : (i : Instr) (double : Bool) → Bounded (rowOf i double)
-unfolding interruptibleEntry plainEntry haltEntry controlEntry jumpEntry registerEntry shiftEntry branchCycles branchEntry storeEntry readEntry
+unfolding interruptibleEntry plainEntry haltEntry controlEntry jumpEntry registerEntry shiftEntry operateCycles branchCycles branchEntry storeEntry readEntry
 row-bounded Hlt double = ((lit≤ tt, lit≤ tt), (lit≤ tt, lit≤ tt))
 row-bounded (Control d) double = ((lit≤ tt, lit≤ tt), (lit≤ tt, lit≤ tt))
 row-bounded Jump double = ((lit≤ tt, lit≤ tt), (lit≤ tt, lit≤ tt))
@@ -47,7 +47,7 @@ row-bounded (Gswd d) double = ((lit≤ tt, lit≤ tt), (lit≤ tt, lit≤ tt))
 row-bounded (Nop n) double = ((lit≤ tt, lit≤ tt), (lit≤ tt, lit≤ tt))
 row-bounded (Sin n) double = ((lit≤ tt, lit≤ tt), (lit≤ tt, lit≤ tt))
 row-bounded (Shift s d) double = cond-both Bounded (ltb d 4) ((lit≤ tt, lit≤ tt), (lit≤ tt, lit≤ tt)) ((lit≤ tt, lit≤ tt), (lit≤ tt, lit≤ tt))
-row-bounded (Register row s d) double = ((lit≤ tt, lit≤ tt), (lit≤ tt, lit≤ tt))
+row-bounded (Register row s d) double = (cond-both Costs (eqb row 2 && ltb 5 d) (lit≤ tt, lit≤ tt) (lit≤ tt, lit≤ tt), (lit≤ tt, lit≤ tt))
 row-bounded (Branch b) double = (cond-both Costs (not (isNopp b)) (lit≤ tt, lit≤ tt) (lit≤ tt, lit≤ tt), (lit≤ tt, lit≤ tt))
 row-bounded (Store s d) double = (cond-both Costs (eqb s 0) (lit≤ tt, lit≤ tt) (lit≤ tt, lit≤ tt), memory-sized s)
 row-bounded (Read row s d) double = (read-costs s double, read-sized s double)

@@ -7,7 +7,7 @@ use Rattle.memory.specs.Memory.{peekOf}
 use Rattle.memory.specs.Bus.{readOf, admissionOf}
 use Rattle.decode.specs.Fields.{joined, branchTarget, returnOf, jumpTarget, interruptsAfter}
 use Rattle.decode.specs.Decode.{controlInstruction, statusInstruction, lowInstruction, instructionOf, isUnspecified, decodeAt}
-use Rattle.decode.specs.Rows.{interruptibleEntry, plainEntry, controlEntry, jumpEntry, registerEntry, shiftEntry, branchCycles, branchEntry, memoryWords, readCycles, readWords, readEntry}
+use Rattle.decode.specs.Rows.{interruptibleEntry, plainEntry, controlEntry, jumpEntry, registerEntry, shiftEntry, operateCycles, branchCycles, branchEntry, memoryWords, readCycles, readWords, readEntry}
 use Rattle.cpu.specs.Machine.{result}
 use Rattle.cpu.specs.Control.{jump}
 use Rattle.cpu.specs.Single.{negr, gswd, shifted}
@@ -21,5 +21,5 @@ use Rattle.meter.specs.Meter.{waitOf}
 use Rattle.test_step.specs.Table.{zeros, EveryCase}
 
 pub every-case : EveryCase
-unfolding wrapAdd wrapSub withSign addOf subtractOf statusWord withLowSign swapTwice rlcTwice sarOnce peekOf readOf admissionOf joined branchTarget returnOf jumpTarget interruptsAfter controlInstruction statusInstruction lowInstruction instructionOf isUnspecified decodeAt interruptibleEntry plainEntry controlEntry jumpEntry registerEntry shiftEntry branchCycles branchEntry memoryWords readCycles readWords readEntry result jump negr gswd shifted mvi add sub cmp conditionHolds isTaken branch begun noted planOf executionWords executedFrom executed admittedAction actionOf stepOf stepsFrom lastMachine limitOf startAt placeAfter rowTurn turnAt walkBy walkOn walkFrom waitOf zeros
+unfolding wrapAdd wrapSub withSign addOf subtractOf statusWord withLowSign swapTwice rlcTwice sarOnce peekOf readOf admissionOf joined branchTarget returnOf jumpTarget interruptsAfter controlInstruction statusInstruction lowInstruction instructionOf isUnspecified decodeAt interruptibleEntry plainEntry controlEntry jumpEntry registerEntry shiftEntry operateCycles branchCycles branchEntry memoryWords readCycles readWords readEntry result jump negr gswd shifted mvi add sub cmp conditionHolds isTaken branch begun noted planOf executionWords executedFrom executed admittedAction actionOf stepOf stepsFrom lastMachine limitOf startAt placeAfter rowTurn turnAt walkBy walkOn walkFrom waitOf zeros
 every-case = (refl, (refl, (refl, (refl, (refl, (refl, (refl, (refl, (refl, (refl, (refl, (refl, tt))))))))))))

@@ -77,8 +77,9 @@ pub(crate) const fn row(w: u16, d: bool) -> Row {
         HLT => Row { halts: true, ..unheard(1, 4) },
         JUMP => heard(3, 12),
         0x001..=0x007 => unheard(1, 4),
-        0x008..=0x03F | 0x080..=0x1FF => heard(1, 6),
+        0x008..=0x03F | 0x0C0..=0x1FF => heard(1, 6),
         0x040..=0x07F => unheard(1, if bit(2, w) { 8 } else { 6 }),
+        0x080..=0x0BF => heard(1, if destination(w) < R6 { 6 } else { 7 }),
         0x200..=0x23F => heard(2, if is_nopp(w) { NOT_TAKEN } else { 9 }),
         0x240..=0x27F => match source(w) {
             DIRECT => unheard(2, 11),
