@@ -5,6 +5,7 @@ use mathlib.Core.Path.{_≡_, refl, ap, ap₂, sym, subst, _∙_}
 use mathlib.Core.Bool.{Bool, true, false}
 use mathlib.Core.List.{List, map}
 use native.Mathlib.Omega.{arith}
+use lib.Dec.{lit≤, lit<}
 use lib.ListN.{getD}
 use Rattle.word.specs.declared.Flagged.{Flagged}
 use Rattle.word.specs.Word.{wrapAdd}
@@ -91,10 +92,15 @@ module _ (r : List ℕ) (next v w : ℕ) (row : Row) where
   destination-is p none = by-eight (TakenAfter noRegister) refl refl refl refl refl refl refl refl
 
 module _ (pc : ℕ) (r : List ℕ) (k : Status) where
+  -- a change that leaves what a register operate leaves
+  abbrev Operates : ℕ → ℕ → ℕ → Change → Type 0
+  Operates row s d x =
+      (read : ℕ → ℕ) (external : ℕ) →
+      Leaves x r (effectAt (Register row s d) pc r k read external .machine) (cyclesAt (Register row s d) pc r k external)
+
   -- the register operates: R7 is on already
-  pub register-leaves : getD r 7 0 ≡ wrapAdd pc 1 → (row s d : ℕ) → 2 ≤ row → row < 8 → s < 8 → d < 8 → (read : ℕ → ℕ) (external : ℕ) →
-      Leaves (writesTo k (operateEntry row d) pc d (registerResult row (beside (getD r d 0) (flagsIn k)) (getD r s 0))) r
-      (effectAt (Register row s d) pc r k read external .machine) (cyclesAt (Register row s d) pc r k external)
+  pub register-leaves : getD r 7 0 ≡ wrapAdd pc 1 → (row s d : ℕ) → 2 ≤ row → row < 8 → s < 8 → d < 8 →
+      Operates row s d (writesTo k (operateEntry row d) pc d (registerResult row (beside (getD r d 0) (flagsIn k)) (getD r s 0)))
   unfolding interruptibleEntry
   register-leaves on row s d l h hs hd read external =
       let m : Machine = begunAt (operateEntry row d) pc r k in
@@ -105,6 +111,14 @@ module _ (pc : ℕ) (r : List ℕ) (k : Status) where
             ∙ sym (register-row-is d (register s m) m (own-is 7 (wrapAdd pc 1) r d hd) row l h);
         costs = refl;
       }
+
+  -- .. of which MOVR is 2
+  pub movr-leaves : getD r 7 0 ≡ wrapAdd pc 1 → (row s d : ℕ) → row ≡ 2 → s < 8 → d < 8 →
+      Operates row s d (writesTo k (operateEntry 2 d) pc d (setSZ (getD r s 0) (beside (getD r d 0) (flagsIn k))))
+  unfolding registerResult
+  movr-leaves on row s d e hs hd =
+      subst (λ n. Operates n s d (writesTo k (operateEntry 2 d) pc d (setSZ (getD r s 0) (beside (getD r d 0) (flagsIn k))))) (sym e)
+      (register-leaves on 2 s d (lit≤ tt) (lit< tt) hs hd)
 
   -- the change that the code makes of an operand
   abbrev pub readChange : ℕ → ℕ → Fetched → Change

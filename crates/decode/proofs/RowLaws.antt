@@ -1,6 +1,7 @@
 -- The bounds of the row table, by its rows, and the words that an instruction stands in.
 use Prim.Native.Nat.{ℕ, _≤_}
-use mathlib.Core.Bool.{Bool, not, _&&_, _||_}
+use mathlib.Core.Path.{_≡_}
+use mathlib.Core.Bool.{Bool, false, not, _&&_, _||_}
 use mathlib.Core.List.{[], _∷_}
 use lib.Dec.{eqb, ltb, lit≤}
 use lib.ListN.{getD}
@@ -9,8 +10,13 @@ use Rattle.decode.specs.declared.Instr.{Instr}
 use Rattle.decode.specs.declared.Instr.the-variants.{Hlt, Control, Jump, Single, Gswd, Nop, Sin, Shift, Register, Branch, Store, Read}
 use Rattle.decode.specs.declared.rows.Row.{Row}
 use Rattle.decode.specs.Fields.{isNopp}
-use Rattle.decode.specs.Rows.{interruptibleEntry, plainEntry, haltEntry, controlEntry, jumpEntry, registerEntry, shiftEntry, operateCycles, branchCycles, branchEntry, memoryWords, storeEntry, readCycles, readWords, readEntry, rowOf}
+use Rattle.decode.specs.Rows.{interruptibleEntry, plainEntry, haltEntry, controlEntry, jumpEntry, registerEntry, shiftEntry, operateCycles, operateEntry, branchCycles, branchEntry, memoryWords, storeEntry, readCycles, readWords, readEntry, rowOf}
 use Rattle.decode.specs.Laws.{RowBounds}
+
+-- an operate that is not MOVR costs what the rows of one register do
+pub others-cost : (row d : ℕ) → eqb row 2 ≡ false → registerEntry ≡ operateEntry row d
+unfolding registerEntry operateCycles
+others-cost row d e = rw e
 
 -- a row's cycles lie from 4 to 12, and its words from 1 to 3
 abbrev Costs : ℕ → Type 0
