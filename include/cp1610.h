@@ -9,7 +9,7 @@
 #include <stdint.h>
 
 /* The number of this interface, raised by each request that changes or adds a call. */
-#define CP1610_INTERFACE 2
+#define CP1610_INTERFACE 3
 
 #ifdef __cplusplus
 extern "C" {
@@ -54,8 +54,9 @@ enum cp1610_lines { CP1610_INTRM_HIGH = 1, CP1610_BUSRQ_HIGH = 2 };
 enum cp1610_kind { CP1610_DONE = 1, CP1610_GRANTED = 3, CP1610_INTERRUPTED = 4, CP1610_EXECUTED = 5 };
 enum cp1610_wait_kind { CP1610_WAITS = 1, CP1610_OVER = 2, CP1610_MEETS_HALT = 3, CP1610_MEETS_UNSPECIFIED = 4 };
 
-/* The refusals: document 01's numbers, and 255, which is this interface's own and none of document 01's: a `state`, `out` or `words`
- * that is shorter than the call needs, or a `map` that is none, tested before all else. A refused call alters nothing. */
+/* The refusals: document 01's numbers with those that document 02 adds, and 255, which is this interface's own and none of theirs: a
+ * `state`, `out` or `words` that is shorter than the call needs, or a `map` that is none, tested before all else. `text`, `room`, `bin` and
+ * `cfg` never give it. A refused call alters nothing. */
 enum cp1610_refusal {
     CP1610_MEMORY_TOO_LONG = 1,
     CP1610_IS_HALTED = 2,
@@ -67,10 +68,12 @@ enum cp1610_refusal {
     CP1610_LIMIT_TOO_HIGH = 8,
     CP1610_MALFORMED_IMAGE = 9,
     CP1610_WRONG_BOARD = 10,
-    CP1610_PAST_MEMORY = 11,
+    CP1610_PAST_MEMORY = 11, /* a record, a mapping line's target or a written region */
     CP1610_SUM_DIFFERS = 12,
-    CP1610_IMAGE_ROOM_TOO_SMALL = 13,
+    CP1610_ROOM_TOO_SMALL = 13, /* for an image, or either room of a written pair */
     CP1610_BAD_MAP = 14,
+    CP1610_MALFORMED_MAPPING = 15,
+    CP1610_MISSING_FILE_WORDS = 16,
     CP1610_SHORT_BUFFER = 255,
     CP1610_NO_MAP = CP1610_SHORT_BUFFER
 };
@@ -92,6 +95,10 @@ enum cp1610_region_report {
 /* What a listing reports, and the most words of a line. */
 enum cp1610_list_report { CP1610_TEXT_LENGTH = 0, CP1610_WORDS_USED = 1, CP1610_NEXT_D = 2, CP1610_LIST_WORDS = 3 };
 enum cp1610_line { CP1610_LINE_WORDS = 3, CP1610_TEXT_ROOM = 16 };
+
+/* What the writing of a pair reports, both in bytes, and the room that its text needs, which is its length too, whatever the region. */
+enum cp1610_pair_report { CP1610_BIN_LENGTH = 0, CP1610_CFG_LENGTH = 1, CP1610_PAIR_WORDS = 2 };
+enum cp1610_pair { CP1610_CFG_ROOM = 32 };
 
 /* An answer is a refusal below 2^32; else the high half is the kind and the low half the value. */
 static inline int cp1610_is_refused(uint64_t answer) { return answer >> 32 == 0; }
@@ -148,6 +155,22 @@ uint64_t cp1610_load(uint16_t board, uint16_t *mem, size_t mem_length, const uin
  * 13 for a room that is too small. */
 uint64_t cp1610_write(uint16_t board, const uint16_t *mem, size_t mem_length, uint16_t first, uint16_t last, uint8_t *room,
     size_t room_length);
+
+/* Loads a pair: a flat file of words, high byte first, and the mapping text that says where they go. The text is the line `[mapping]`,
+ * then empty lines and lines of just the form `$0000 - $0FFF = $5000`: the first file word, the last, and the address that the first goes to,
+ * four upper-case digits each. Each line ends in a line feed, the last too. Later lines win, words that no line names are left, and no map
+ * is asked: words of ROM are loaded too. The answer is 2^32 + the number of mapping lines, which come below 2^32 in a text below 88 GiB.
+ * Refused by 1 for a memory above 65,536 words, else by 15 for a text that is not of this form or has a line with its first word above its
+ * last, else by 16 for a line that names words that the file has not, or an odd number of bytes, else by 11 for a line that goes past the
+ * memory; each over all lines. */
+uint64_t cp1610_load_pair(uint16_t *mem, size_t mem_length, const uint8_t *bin, size_t bin_length, const uint8_t *cfg, size_t cfg_length);
+
+/* Writes the words from first to last as a pair: the flat file into `bin`, and into `cfg` a mapping text of one line that puts them back.
+ * Kind 1; `out` gets the bytes of the file, two a word, and of the text, always 32. The rooms past them stay.
+ * Refused by 1 for a memory above 65,536 words, else by 7 for a first above last, else by 11 for a region past the memory, else by
+ * 13 for a room that is too small, of which the other one stays too. */
+uint64_t cp1610_write_pair(const uint16_t *mem, size_t mem_length, uint16_t first, uint16_t last, uint8_t *bin, size_t bin_length,
+    uint8_t *cfg, size_t cfg_length, uint32_t *out, size_t out_length);
 
 #ifdef __cplusplus
 }

@@ -95,6 +95,15 @@ pub struct Listed {
     pub next_d: bool,
 }
 
+/// What the writer of a pair answers: how far each room is written.
+#[derive(Clone, Copy, Debug, PartialEq, Eq, Hash)]
+pub struct PairLengths {
+    /// The bytes of the flat file.
+    pub bin: usize,
+    /// The bytes of the mapping text.
+    pub cfg: usize,
+}
+
 /// What the assembler answers: one to three words.
 #[derive(Clone, Copy, Debug, PartialEq, Eq, Hash)]
 pub struct Assembled {

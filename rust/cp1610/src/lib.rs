@@ -40,10 +40,10 @@ mod lines;
 mod refusal;
 mod state;
 
-pub use answers::{Assembled, Cause, Event, Listed, Longest, Region, Run, Step, Wait};
+pub use answers::{Assembled, Cause, Event, Listed, Longest, PairLengths, Region, Run, Step, Wait};
 pub use board::{Board, Kind, Range};
 #[cfg(feature = "library")]
-pub use library::{Machine, assemble, calls, list, load, region, wait, write};
+pub use library::{Machine, assemble, calls, list, load, load_pair, region, wait, write, write_pair};
 pub use lines::Lines;
 pub use refusal::Refusal;
 pub use state::{Mark, Register, STATE_WORDS, StateWords};
@@ -71,3 +71,6 @@ pub const LINE_WORDS: usize = 3;
 
 /// The most words of a record in an image file.
 pub const RECORD_WORDS: usize = 1_024;
+
+/// The room that the text of a written pair needs, and its length, whatever the region.
+pub const CFG_ROOM: usize = 32;

@@ -5,9 +5,11 @@ mod image;
 mod listing;
 mod machine;
 mod meter;
+mod pair;
 mod words;
 
 pub use image::{load, write};
 pub use listing::{assemble, list};
 pub use machine::Machine;
 pub use meter::{region, wait};
+pub use pair::{load_pair, write_pair};

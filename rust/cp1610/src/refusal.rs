@@ -28,19 +28,23 @@ pub enum Refusal {
     MalformedImage = 9,
     /// An image file for another board.
     WrongBoard = 10,
-    /// A record or a written region past the memory.
+    /// A record, a mapping line's target or a written region past the memory.
     PastMemory = 11,
     /// An image file whose sum differs.
     SumDiffers = 12,
-    /// An image room that is too small.
-    ImageRoomTooSmall = 13,
+    /// An image room, or either room of a written pair, that is too small.
+    RoomTooSmall = 13,
     /// A board of more than 16 ranges, or with a range whose first address is above its last.
     BadMap = 14,
+    /// A mapping text without its first line, or with a line that is not of the form or has its first word above its last.
+    MalformedMapping = 15,
+    /// A mapping line that names words that the flat file lacks, or a flat file of an odd number of bytes.
+    MissingFileWords = 16,
 }
 
 impl Refusal {
     /// Every refusal, number 1 first.
-    const TABLE: [Refusal; 14] = [
+    const TABLE: [Refusal; 16] = [
         Refusal::MemoryTooLong,
         Refusal::Halted,
         Refusal::Unspecified,
@@ -53,8 +57,10 @@ impl Refusal {
         Refusal::WrongBoard,
         Refusal::PastMemory,
         Refusal::SumDiffers,
-        Refusal::ImageRoomTooSmall,
+        Refusal::RoomTooSmall,
         Refusal::BadMap,
+        Refusal::MalformedMapping,
+        Refusal::MissingFileWords,
     ];
 
     /// Its number in document 01's table.
@@ -80,10 +86,12 @@ impl Refusal {
             Refusal::LimitTooHigh => "the limit is above 4,096 cycles",
             Refusal::MalformedImage => "the image file is malformed",
             Refusal::WrongBoard => "the image file is for another board",
-            Refusal::PastMemory => "a record or region is past the memory",
+            Refusal::PastMemory => "a record, a mapping target or a region is past the memory",
             Refusal::SumDiffers => "the image file's sum differs",
-            Refusal::ImageRoomTooSmall => "the image room is too small",
+            Refusal::RoomTooSmall => "the room for an image or a pair is too small",
             Refusal::BadMap => "the board has more than 16 ranges, or one with its first address above its last",
+            Refusal::MalformedMapping => "the mapping text is malformed",
+            Refusal::MissingFileWords => "the flat file lacks a word that a line names, or has an odd number of bytes",
         }
     }
 }
@@ -106,7 +114,7 @@ mod tests {
             assert_eq!(usize::from(refusal.number()), place + 1);
             assert_eq!(Refusal::from_number(refusal.number()), Some(refusal));
         }
-        for number in [0, 15, 255] {
+        for number in [0, 17, 255] {
             assert_eq!(Refusal::from_number(number), None);
         }
     }

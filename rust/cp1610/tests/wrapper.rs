@@ -1,7 +1,9 @@
 //! What the wrapper adds to the C interface.
 
 use cp1610::calls::{self, NO_MAP, SHORT_BUFFER};
-use cp1610::{Board, Cause, Event, Kind, Lines, Machine, Mark, Range, Refusal, Register, STATE_WORDS};
+use cp1610::{
+    Board, CFG_ROOM, Cause, Event, Kind, Lines, Machine, Mark, PairLengths, Range, Refusal, Register, STATE_WORDS,
+};
 
 #[test]
 fn a_machine_shows_and_takes_registers_and_marks() {
@@ -95,6 +97,41 @@ fn a_bad_board_is_refused_where_it_is_lent() {
     assert!(cp1610::wait(&memory, &most, 0, 0).is_ok());
 }
 
+/// Later lines win, and words that no line names are left.
+#[test]
+fn a_pair_is_loaded_line_by_line() {
+    let bin = [0x00, 0x01, 0x00, 0x02, 0x00, 0x03, 0x00, 0x04];
+    let mut memory = [9; 5];
+    let cfg = b"[mapping]\n$0000 - $0001 = $0001\n\n$0001 - $0002 = $0002\n";
+    assert_eq!(cp1610::load_pair(&mut memory, &bin, cfg), Ok(2));
+    assert_eq!(memory, [9, 1, 2, 3, 9]);
+    assert_eq!(cp1610::load_pair(&mut memory, &[], b"[mapping]\n"), Ok(0));
+    for (cfg, refusal) in [
+        (&b"$0000 - $0000 = $0000\n"[..], Refusal::MalformedMapping),
+        (b"[mapping]\n$0004 - $0004 = $0000\n", Refusal::MissingFileWords),
+        (b"[mapping]\n$0000 - $0001 = $0004\n", Refusal::PastMemory),
+    ] {
+        assert_eq!(cp1610::load_pair(&mut memory, &bin, cfg), Err(refusal));
+    }
+    assert_eq!(memory, [9, 1, 2, 3, 9]);
+}
+
+/// Both lengths are answered, and both rooms stay past them; where either is short, neither is touched.
+#[test]
+fn a_pair_is_written_into_two_rooms() {
+    let memory = [0x1234, 0x5678, 0x9ABC];
+    let (mut bin, mut cfg) = ([9; 5], [9; CFG_ROOM + 1]);
+    for (bin_room, cfg_room) in [(3, CFG_ROOM), (4, CFG_ROOM - 1)] {
+        let refused = cp1610::write_pair(&memory, 1, 2, &mut bin[..bin_room], &mut cfg[..cfg_room]);
+        assert_eq!(refused, Err(Refusal::RoomTooSmall));
+    }
+    assert_eq!((bin, cfg), ([9; 5], [9; CFG_ROOM + 1]));
+    let lengths = PairLengths { bin: 4, cfg: CFG_ROOM };
+    assert_eq!(cp1610::write_pair(&memory, 1, 2, &mut bin, &mut cfg), Ok(lengths));
+    assert_eq!(bin, [0x56, 0x78, 0x9A, 0xBC, 9]);
+    assert_eq!(&cfg, b"[mapping]\n$0000 - $0001 = $0001\n\x09");
+}
+
 const ALL_RAM: &[u16] = &[0, 0xFFFF, 1];
 
 /// Short buffers are refused before all else, here before a memory that is too long.
@@ -109,6 +146,7 @@ fn short_buffers_are_refused_by_255() {
     assert_eq!(calls::region(&long, ALL_RAM, 1, 0, 0, &mut out[..4]), SHORT_BUFFER);
     assert_eq!(calls::list(&long, ALL_RAM, 0, 0, &mut [], &mut out[..2]), SHORT_BUFFER);
     assert_eq!(calls::assemble(b"no line", 0, &mut state[..2]), SHORT_BUFFER);
+    assert_eq!(calls::write_pair(&long, 1, 0, &mut [], &mut [], &mut out[..1]), SHORT_BUFFER);
     assert_eq!((state, out), ([9; STATE_WORDS], [9; 5]));
 }
 

@@ -1,5 +1,6 @@
 //! The one-line assembler, which takes exactly the lister's lines.
 
+use crate::hex::word_of;
 use crate::mnemonic::{CALLS, Form, JUMPS, MNEMONICS, Name, place_of_name};
 use crate::opcode::JUMP;
 use cp1610::{Assembled, Refusal};
@@ -121,22 +122,8 @@ fn return_register(byte: u8) -> Option<u16> {
     digit_below(byte, 7)?.checked_sub(4)
 }
 
-/// Four upper-case digits.
+/// Four digits and nothing else.
 #[inline(always)]
 fn hex(digits: &[u8]) -> Option<u16> {
-    let digits: &[u8; 4] = digits.try_into().ok()?;
-    let mut word = 0;
-    for byte in digits {
-        word = word << 4 | hex_digit(*byte)?;
-    }
-    Some(word)
-}
-
-#[inline(always)]
-fn hex_digit(byte: u8) -> Option<u16> {
-    match byte {
-        b'0'..=b'9' => Some((byte - b'0').into()),
-        b'A'..=b'F' => Some((byte - b'A' + 10).into()),
-        _ => None,
-    }
+    word_of(digits.try_into().ok()?)
 }

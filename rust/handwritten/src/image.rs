@@ -1,15 +1,15 @@
 //! Image files: the loader and the writer.
 
-use crate::memory::check_length;
+use crate::bytes::{Room, WORD, load_words, words};
+use crate::memory::{check_inside, check_length, written_region};
 use cp1610::{RECORD_WORDS, Refusal};
 
 const ID: &[u8; 2] = b"ID";
 const AT: &[u8; 2] = b"AT";
 const OK: &[u8; 2] = b"OK";
 
-/// The bytes of a mark or number; of a file's head, a mark and the board; of its tail, a mark and the sum; of a record's head, a mark,
-/// the address and the count.
-const WORD: usize = 2;
+/// The bytes of a file's head, a mark and the board; of its tail, a mark and the sum; of a record's head, a mark, the address and the
+/// count. A mark has as many as a number.
 const HEAD: usize = 2 * WORD;
 const TAIL: usize = 2 * WORD;
 const RECORD_HEAD: usize = 3 * WORD;
@@ -25,11 +25,7 @@ pub fn load(board: u16, memory: &mut [u16], file: &[u8]) -> Result<usize, Refusa
     let mut rest = Rest(&file[HEAD..]);
     for _ in 0..records {
         let record = rest.record()?;
-        let start = usize::from(record.address);
-        let places = &mut memory[start..start + record.words.len() / WORD];
-        for (place, word) in places.iter_mut().zip(words(record.words)) {
-            *place = word;
-        }
+        load_words(memory, record.address, record.words);
     }
     Ok(records)
 }
@@ -47,9 +43,7 @@ fn check(board: u16, length: usize, file: &[u8]) -> Result<usize, Refusal> {
     let mut records = 0;
     while rest.0.starts_with(AT) {
         let record = rest.record()?;
-        if usize::from(record.address) + record.words.len() / WORD > length {
-            return Err(Refusal::PastMemory);
-        }
+        check_inside(length, record.address, record.words.len() / WORD)?;
         sum = sum.wrapping_add(record.sum());
         records += 1;
     }
@@ -103,53 +97,27 @@ impl Record<'_> {
     }
 }
 
-fn words(bytes: &[u8]) -> impl Iterator<Item = u16> {
-    bytes.as_chunks().0.iter().map(|pair| u16::from_be_bytes(*pair))
-}
-
 /// Writes the words `first..=last` as an image file for `board`, and answers its length.
 ///
 /// # Errors
 ///
 /// Refused by 1, 7, 11 and 13, in this order.
 pub fn write(board: u16, memory: &[u16], first: u16, last: u16, room: &mut [u8]) -> Result<usize, Refusal> {
-    check_length(memory)?;
-    if first > last {
-        return Err(Refusal::FirstAboveLast);
-    }
-    let region = memory.get(usize::from(first)..=usize::from(last)).ok_or(Refusal::PastMemory)?;
+    let region = written_region(memory, first, last)?;
     let length = HEAD + TAIL + WORD * region.len() + RECORD_HEAD * region.len().div_ceil(RECORD_WORDS);
-    let mut room = Room(room.get_mut(..length).ok_or(Refusal::ImageRoomTooSmall)?);
+    let mut room = Room(room.get_mut(..length).ok_or(Refusal::RoomTooSmall)?);
     let mut sum = board;
-    room.put(ID, &[board]);
+    room.put(ID);
+    room.put_words(&[board]);
     let mut address = first;
     for words in region.chunks(RECORD_WORDS) {
         let count = words.len() as u16;
-        room.put(AT, &[address, count]);
+        room.put(AT);
+        room.put_words(&[address, count]);
         sum = room.put_words(words).wrapping_add(sum).wrapping_add(address).wrapping_add(count);
         address = address.wrapping_add(count);
     }
-    room.put(OK, &[sum]);
+    room.put(OK);
+    room.put_words(&[sum]);
     Ok(length)
-}
-
-/// What of a file is still to be written.
-struct Room<'a>(&'a mut [u8]);
-
-impl Room<'_> {
-    fn put(&mut self, mark: &[u8; 2], numbers: &[u16]) {
-        self.0.split_off_mut(..WORD).expect("the room was measured").copy_from_slice(mark);
-        self.put_words(numbers);
-    }
-
-    /// Puts the words, and answers their sum.
-    fn put_words(&mut self, words: &[u16]) -> u16 {
-        let mut sum = 0u16;
-        let room = self.0.split_off_mut(..WORD * words.len()).expect("the room was measured");
-        for (pair, word) in room.as_chunks_mut().0.iter_mut().zip(words) {
-            *pair = word.to_be_bytes();
-            sum = sum.wrapping_add(*word);
-        }
-        sum
-    }
 }

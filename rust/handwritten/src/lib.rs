@@ -8,7 +8,9 @@
 mod alu;
 mod assemble;
 mod board;
+mod bytes;
 mod execute;
+mod hex;
 mod image;
 mod list;
 mod machine;
@@ -16,6 +18,7 @@ mod memory;
 mod meter;
 mod mnemonic;
 mod opcode;
+mod pair;
 mod shift;
 mod step;
 
@@ -25,3 +28,4 @@ pub use image::{load, write};
 pub use list::list;
 pub use machine::Machine;
 pub use meter::{region, wait};
+pub use pair::{load_pair, write_pair};

@@ -1,12 +1,11 @@
 //! The lister: the line of the instruction at an address.
 
 use crate::board::Board;
+use crate::hex::digits_of;
 use crate::memory::Words;
 use crate::mnemonic::{CALLS, DECLE, Form, JUMPS, MNEMONICS, Name, PLACE_OF};
 use crate::opcode::{JUMP, SDBD, bit, destination, opcode_at, row_of, source};
 use cp1610::{Listed, Refusal, TEXT_ROOM};
-
-const DIGITS: &[u8; 16] = b"0123456789ABCDEF";
 
 /// Puts the line of the instruction at `address` into `text`, with D as it stands there.
 ///
@@ -110,7 +109,7 @@ impl Line {
 
     #[inline(always)]
     fn hex(&mut self, word: u16) -> &mut Line {
-        self.put([12, 8, 4, 0].map(|place| DIGITS[usize::from(word >> place & 15)]))
+        self.put(digits_of(word))
     }
 
     /// A number below 16.

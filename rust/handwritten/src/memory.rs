@@ -85,3 +85,17 @@ fn check(memory: &[u16], board: &Board) -> Result<(), Refusal> {
 pub(crate) fn check_length(memory: &[u16]) -> Result<(), Refusal> {
     if memory.len() > LONGEST_MEMORY { Err(Refusal::MemoryTooLong) } else { Ok(()) }
 }
+
+/// The words of a region that is to be written. Refused by 1, 7 and 11, in this order.
+pub(crate) fn written_region(memory: &[u16], first: u16, last: u16) -> Result<&[u16], Refusal> {
+    check_length(memory)?;
+    if first > last {
+        return Err(Refusal::FirstAboveLast);
+    }
+    memory.get(first.into()..=last.into()).ok_or(Refusal::PastMemory)
+}
+
+/// Whether a memory of this length has so many words from an address on, of which none wraps.
+pub(crate) fn check_inside(length: usize, address: u16, count: usize) -> Result<(), Refusal> {
+    if usize::from(address) + count > length { Err(Refusal::PastMemory) } else { Ok(()) }
+}

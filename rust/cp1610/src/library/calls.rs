@@ -74,6 +74,26 @@ unsafe extern "C" {
         room: *mut u8,
         room_length: usize,
     ) -> u64;
+    fn cp1610_load_pair(
+        mem: *mut u16,
+        mem_length: usize,
+        bin: *const u8,
+        bin_length: usize,
+        cfg: *const u8,
+        cfg_length: usize,
+    ) -> u64;
+    fn cp1610_write_pair(
+        mem: *const u16,
+        mem_length: usize,
+        first: u16,
+        last: u16,
+        bin: *mut u8,
+        bin_length: usize,
+        cfg: *mut u8,
+        cfg_length: usize,
+        out: *mut u32,
+        out_length: usize,
+    ) -> u64;
 }
 
 // SAFETY, for every call below: the library's functions are total as long as each pointer is valid for its length and no buffer
@@ -180,4 +200,31 @@ pub fn load(board: u16, memory: &mut [u16], file: &[u8]) -> u64 {
 pub fn write(board: u16, memory: &[u16], first: u16, last: u16, room: &mut [u8]) -> u64 {
     // SAFETY: as above.
     unsafe { cp1610_write(board, memory.as_ptr(), memory.len(), first, last, room.as_mut_ptr(), room.len()) }
+}
+
+/// `cp1610_load_pair`.
+#[inline]
+pub fn load_pair(memory: &mut [u16], bin: &[u8], cfg: &[u8]) -> u64 {
+    // SAFETY: as above.
+    unsafe { cp1610_load_pair(memory.as_mut_ptr(), memory.len(), bin.as_ptr(), bin.len(), cfg.as_ptr(), cfg.len()) }
+}
+
+/// `cp1610_write_pair`.
+#[inline]
+pub fn write_pair(memory: &[u16], first: u16, last: u16, bin: &mut [u8], cfg: &mut [u8], out: &mut [u32]) -> u64 {
+    // SAFETY: as above.
+    unsafe {
+        cp1610_write_pair(
+            memory.as_ptr(),
+            memory.len(),
+            first,
+            last,
+            bin.as_mut_ptr(),
+            bin.len(),
+            cfg.as_mut_ptr(),
+            cfg.len(),
+            out.as_mut_ptr(),
+            out.len(),
+        )
+    }
 }

@@ -38,7 +38,7 @@ pub fn load(board: u16, memory: &mut [u16], file: &[u8]) -> Result<usize, Refusa
 ///
 /// # Errors
 ///
-/// [`Refusal::MemoryTooLong`], then [`Refusal::FirstAboveLast`], then [`Refusal::PastMemory`], then [`Refusal::ImageRoomTooSmall`].
+/// [`Refusal::MemoryTooLong`], then [`Refusal::FirstAboveLast`], then [`Refusal::PastMemory`], then [`Refusal::RoomTooSmall`].
 ///
 /// # Panics
 ///

@@ -11,11 +11,11 @@ pub(crate) struct Success {
     pub value: u32,
 }
 
-/// The number that a success of the loader or the writer counts up from 2^32.
+/// The number that a success of a loader or of the image writer counts up from 2^32.
 #[inline]
 pub(crate) fn counted(answer: u64) -> Result<usize, Refusal> {
     match answer.checked_sub(FIRST_SUCCESS) {
-        Some(count) => Ok(count as usize), // records or bytes of a buffer, so it is no more than a length
+        Some(count) => Ok(count as usize), // records, lines or bytes of a buffer, so it is no more than a length
         None => Err(refusal(answer)),
     }
 }
