@@ -1,10 +1,11 @@
 //! The loader, on good image files and on damaged ones, and the writer.
 
+use crate::damage::damage;
 use crate::random::Random;
 use crate::reference;
 use crate::scene::Scene;
 use crate::tally::{Occasion, Tally};
-use crate::twin::Twin;
+use crate::twin::{Twin, any_file_room};
 use cp1610::{LONGEST_MEMORY, RECORD_WORDS, calls};
 use std::ops::RangeInclusive;
 
@@ -74,15 +75,8 @@ fn any_file(random: &mut Random, board: u16, length: usize) -> Vec<u8> {
     file.bytes
 }
 
-fn damage(random: &mut Random, file: &mut Vec<u8>) {
-    let at = random.size_below(file.len());
-    match random.below(4) {
-        0 => file.truncate(at),
-        1 => file.push(random.byte()),
-        2 => file[at] = random.byte(),
-        _ => _ = file.remove(at),
-    }
-}
+/// What stands in marks, and in the high bytes of counts.
+const BYTES: &[u8] = b"IDATOK\x00\x04";
 
 /// A board's number; few, so that two are often equal.
 fn any_board(random: &mut Random) -> u16 {
@@ -94,7 +88,7 @@ pub(crate) fn load(random: &mut Random, scene: &mut Scene, tally: &mut Tally) {
     let named = if random.one_in(8) { any_board(random) } else { board };
     let mut file = any_file(random, named, scene.memory.len());
     if random.one_in(2) {
-        damage(random, &mut file);
+        damage(random, &mut file, BYTES);
     }
     let mut file = Twin::of(random, &file);
     let ours = calls::load(board, scene.memory.ours(), file.ours());
@@ -113,33 +107,16 @@ pub(crate) fn load(random: &mut Random, scene: &mut Scene, tally: &mut Tally) {
     }
 }
 
-/// Regions in the memory, past it, and with the first address above the last.
-fn any_region(random: &mut Random, scene: &Scene) -> (u16, u16) {
-    let first = scene.address(random);
-    let last = match random.below(8) {
-        0 => scene.address(random),
-        1 => (scene.memory.len() as u16).wrapping_sub(1),
-        _ => first.saturating_add(random.below(8) as u16),
-    };
-    (first, last)
-}
-
-/// A room around the length that the file needs.
-fn any_file_room(random: &mut Random, first: u16, last: u16) -> usize {
-    let words = usize::from(last.saturating_sub(first)) + 1;
-    let length = 8 + 2 * words + 6 * words.div_ceil(RECORD_WORDS);
-    match random.below(8) {
-        0 => length - 1,
-        1 => random.size_below(length),
-        2 => length,
-        _ => length + random.size_below(8),
-    }
+/// The length of the file of so many words.
+fn length_of(words: usize) -> usize {
+    8 + 2 * words + 6 * words.div_ceil(RECORD_WORDS)
 }
 
 pub(crate) fn write(random: &mut Random, scene: &mut Scene, tally: &mut Tally) {
-    let (first, last) = any_region(random, scene);
+    let (first, last) = scene.region(random);
+    let words = usize::from(last.saturating_sub(first)) + 1;
     let board = any_board(random);
-    let length = any_file_room(random, first, last);
+    let length = any_file_room(random, length_of(words));
     let mut room = Twin::any(random, length);
     let ours = calls::write(board, scene.memory.ours(), first, last, room.ours());
     let theirs = reference::write(board, scene.memory.theirs(), first, last, room.theirs());
@@ -147,7 +124,7 @@ pub(crate) fn write(random: &mut Random, scene: &mut Scene, tally: &mut Tally) {
     assert_eq!(ours, theirs, "{call}");
     room.assert_equal(&call, "room");
     scene.memory.assert_equal(&call, "memory");
-    let records = (usize::from(last.saturating_sub(first)) + 1).div_ceil(RECORD_WORDS) as u32;
+    let records = words.div_ceil(RECORD_WORDS) as u32;
     tally.count("write", ours, || if records == 1 { "1 record" } else { "records" });
     if ours >> 32 != 0 && MANY_RECORDS.contains(&records) {
         tally.count_occasion(Occasion::ManyRecordsWritten);

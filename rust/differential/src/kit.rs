@@ -1,6 +1,6 @@
 //! A kit as a type, for tests and measurements that are run with either of the two.
 
-use cp1610::{Assembled, Lines, Listed, Range, Refusal, Region, Run, StateWords, Step, Wait};
+use cp1610::{Assembled, Lines, Listed, PairLengths, Range, Refusal, Region, Run, StateWords, Step, Wait};
 
 /// The calls of a board kit. The refusals are document 01's, as the crate `cp1610` says at each of its functions.
 pub trait Kit {
@@ -59,6 +59,18 @@ pub trait Kit {
 
     /// Writes an image file, and answers its length.
     fn write(board: u16, memory: &[u16], first: u16, last: u16, room: &mut [u8]) -> Result<usize, Refusal>;
+
+    /// Loads a flat file by its mapping text, and answers the number of mapping lines.
+    fn load_pair(memory: &mut [u16], bin: &[u8], cfg: &[u8]) -> Result<usize, Refusal>;
+
+    /// Writes a flat file and its mapping text, and answers their lengths.
+    fn write_pair(
+        memory: &[u16],
+        first: u16,
+        last: u16,
+        bin: &mut [u8],
+        cfg: &mut [u8],
+    ) -> Result<PairLengths, Refusal>;
 }
 
 /// Makes a type that is the kit of a crate, whose functions have the trait's names.
@@ -151,6 +163,22 @@ macro_rules! kit_of_crate {
             #[inline]
             fn write(board: u16, memory: &[u16], first: u16, last: u16, room: &mut [u8]) -> Result<usize, Refusal> {
                 $calls::write(board, memory, first, last, room)
+            }
+
+            #[inline]
+            fn load_pair(memory: &mut [u16], bin: &[u8], cfg: &[u8]) -> Result<usize, Refusal> {
+                $calls::load_pair(memory, bin, cfg)
+            }
+
+            #[inline]
+            fn write_pair(
+                memory: &[u16],
+                first: u16,
+                last: u16,
+                bin: &mut [u8],
+                cfg: &mut [u8],
+            ) -> Result<PairLengths, Refusal> {
+                $calls::write_pair(memory, first, last, bin, cfg)
             }
         }
     };

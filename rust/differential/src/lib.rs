@@ -3,12 +3,14 @@
 //! as a type, for what is run with both.
 
 pub mod cases;
+mod damage;
 mod image_calls;
 mod kit;
 mod listing_calls;
 mod machine_calls;
 mod map;
 mod meter_calls;
+mod pair_calls;
 mod random;
 mod reference;
 pub mod rows;
@@ -28,7 +30,7 @@ const CALLS_PER_SCENE: u64 = 40;
 type Call = fn(&mut Random, &mut Scene, &mut Tally);
 
 /// The calls, each as many times as it weighs.
-const CALLS: [(Call, u64); 9] = [
+const CALLS: [(Call, u64); 11] = [
     (machine_calls::reset, 1),
     (machine_calls::step, 40),
     (machine_calls::run, 12),
@@ -38,6 +40,8 @@ const CALLS: [(Call, u64); 9] = [
     (listing_calls::assemble, 18),
     (image_calls::load, 10),
     (image_calls::write, 5),
+    (pair_calls::load, 10),
+    (pair_calls::write, 5),
 ];
 
 /// Makes so many random calls of both kits.

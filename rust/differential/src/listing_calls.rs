@@ -1,5 +1,6 @@
 //! The lister, and the assembler on its lines and on damaged ones.
 
+use crate::damage::damage;
 use crate::random::Random;
 use crate::reference;
 use crate::scene::{DISPLACEMENTS, Scene, any_branch, is_far_branch};
@@ -69,27 +70,12 @@ fn any_listed(random: &mut Random) -> Vec<u8> {
     text
 }
 
-/// A byte more, fewer bytes, a byte less, or another byte in the place of one: any, one that stands in lines, or its neighbour.
-fn damage(random: &mut Random, line: &mut Vec<u8>) {
-    let at = random.size_below(line.len());
-    let byte = random.pick(BYTES);
-    match random.below(7) {
-        0 => line.insert(at, byte),
-        1 => line.push(byte),
-        2 => line.truncate(at),
-        3 => _ = line.remove(at),
-        4 => line[at] = random.byte(),
-        5 => line[at] = byte,
-        _ => line[at] = line[at].wrapping_add(random.pick(&[1, u8::MAX])),
-    }
-}
-
 /// A lister's line, perhaps damaged; the name of one with the operands of another; or bytes at random.
 fn any_line(random: &mut Random) -> Vec<u8> {
     let mut line = any_listed(random);
     match random.below(8) {
         0..=3 => {}
-        4..=5 => damage(random, &mut line),
+        4..=5 => damage(random, &mut line, BYTES),
         6 => {
             let other = any_listed(random);
             let operands = other.iter().position(|byte| *byte == b' ').unwrap_or(other.len());

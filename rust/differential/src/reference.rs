@@ -128,3 +128,17 @@ pub fn load(board: u16, memory: &mut [u16], file: &[u8]) -> u64 {
 pub fn write(board: u16, memory: &[u16], first: u16, last: u16, room: &mut [u8]) -> u64 {
     handwritten::write(board, memory, first, last, room).map_or_else(refused, |length| success(DONE, length as u32))
 }
+
+pub fn load_pair(memory: &mut [u16], bin: &[u8], cfg: &[u8]) -> u64 {
+    handwritten::load_pair(memory, bin, cfg).map_or_else(refused, |lines| success(DONE, lines as u32))
+}
+
+pub fn write_pair(memory: &[u16], first: u16, last: u16, bin: &mut [u8], cfg: &mut [u8], out: &mut [u32]) -> u64 {
+    let Some(out) = out.first_chunk_mut() else {
+        return SHORT_BUFFER;
+    };
+    handwritten::write_pair(memory, first, last, bin, cfg).map_or_else(refused, |lengths| {
+        *out = [lengths.bin as u32, lengths.cfg as u32];
+        success(DONE, 0)
+    })
+}

@@ -7,7 +7,8 @@
 //! after flags=- r4=141A r7=0101 answer=executed cycles=8
 //! ```
 //!
-//! A board's map is a field too: `map=0000-00EF:ram8,5000-6FFF:rom`, the range that decides first at the front, or `map=none`.
+//! A text is always a row's last field, as it may have spaces; in a text of several lines `/` stands for a line feed and `^` for a carriage
+//! return. A board's map is a field too: `map=0000-00EF:ram8,5000-6FFF:rom`, the range that decides first at the front, or `map=none`.
 //!
 //! What is left out has its default; what is not understood is an error. So each reader takes the fields that it knows from a row, and
 //! [`Fields::end`] finds what nobody took.
@@ -235,6 +236,16 @@ pub fn bytes(value: &str) -> Option<Vec<u8>> {
     value.as_bytes().chunks(2).map(byte).collect()
 }
 
+/// The bytes of a text of several lines.
+pub fn lines(value: &str) -> Vec<u8> {
+    let byte = |shown| match shown {
+        b'/' => b'\n',
+        b'^' => b'\r',
+        other => other,
+    };
+    value.bytes().map(byte).collect()
+}
+
 /// Decimal digits.
 pub fn number<T: FromStr>(value: &str) -> Option<T> {
     if value.bytes().all(|byte| byte.is_ascii_digit()) { value.parse().ok() } else { None }
@@ -251,7 +262,7 @@ pub fn bit(value: &str) -> Option<bool> {
 
 #[cfg(test)]
 mod tests {
-    use super::{Fields, bytes, cases, map};
+    use super::{Fields, bytes, cases, lines, map};
     use cp1610::Range;
 
     #[test]
@@ -279,6 +290,13 @@ mod tests {
         for value in ["", "0000-00EF", "0000:ram8", "0000-00EF:RAM8", "0-00EF:rom", "0000-00ef:rom", "0000-00EF:rom,"] {
             assert_eq!(map(value), None, "{value}");
         }
+    }
+
+    #[test]
+    fn a_text_of_lines_is_the_rest_of_its_row() {
+        let mut fields = Fields::read("bin=12 text=[mapping]^/ / bin=34/").expect("the row is of the form");
+        assert_eq!(fields.take("text").map(lines), Some(b"[mapping]\r\n \n bin=34\n".to_vec()));
+        assert_eq!(fields.take("bin"), Some("12"));
     }
 
     #[test]

@@ -38,6 +38,18 @@ impl Scene {
         any_address(random, self.memory.len())
     }
 
+    /// A region that is to be written: all of the memory or some of it, past it, or with the first address above the last.
+    pub fn region(&self, random: &mut Random) -> (u16, u16) {
+        let first = self.address(random);
+        let memory_last = (self.memory.len() as u16).wrapping_sub(1);
+        match random.below(16) {
+            0 | 1 => (first, self.address(random)),
+            2 | 3 => (first, memory_last),
+            4 => (0, memory_last),
+            _ => (first, first.saturating_add(random.below(8) as u16)),
+        }
+    }
+
     /// The word at an address, as a step reads it under a map.
     pub fn word_at(&self, map: &Map, at: u16) -> u16 {
         match self.memory.items().get(usize::from(at)) {

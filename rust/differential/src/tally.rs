@@ -7,7 +7,7 @@ use std::fmt;
 
 const OPCODES: usize = 1_024;
 
-/// What a call can answer: document 01's refusals in their order, and the kinds of a success.
+/// What a call can answer: the refusals in their order, and the kinds of a success.
 struct Answers {
     call: &'static str,
     refusals: &'static [u64],
@@ -15,7 +15,7 @@ struct Answers {
 }
 
 /// All that each call can answer. 255 is the C interface's own refusal, of a short buffer or of a map that is none.
-const ANSWERS: [Answers; 9] = [
+const ANSWERS: [Answers; 11] = [
     Answers { call: "reset", refusals: &[255], kinds: &["done"] },
     Answers { call: "step", refusals: &[255, 1, 14, 2, 3], kinds: &["grant", "interrupt", "instruction"] },
     Answers { call: "run", refusals: &[255, 1, 14, 4, 2], kinds: &["halted", "unspecified", "budget"] },
@@ -25,6 +25,8 @@ const ANSWERS: [Answers; 9] = [
     Answers { call: "assemble", refusals: &[255, 6], kinds: &["1 word", "2 words", "3 words"] },
     Answers { call: "load", refusals: &[1, 9, 10, 11, 12], kinds: &["no records", "1 record", "records"] },
     Answers { call: "write", refusals: &[1, 7, 11, 13], kinds: &["1 record", "records"] },
+    Answers { call: "load_pair", refusals: &[1, 15, 16, 11], kinds: &["no lines", "1 line", "lines"] },
+    Answers { call: "write_pair", refusals: &[255, 1, 7, 11, 13], kinds: &["written"] },
 ];
 
 /// What chance alone makes too seldom, and the draws are made to meet.
@@ -40,6 +42,24 @@ pub(crate) enum Occasion {
     ManyRecordsLoaded,
     /// A file of more than three records, written.
     ManyRecordsWritten,
+    /// A text of more than three mapping lines, loaded.
+    ManyLinesLoaded,
+    /// One with an empty line.
+    EmptyLineLoaded,
+    /// One with two lines for one address.
+    TargetsOverlap,
+    /// One with a line that ends with the memory's last word.
+    LastWordLoaded,
+    /// One with a line of 65,536 words.
+    LongestLineLoaded,
+    /// A flat file with words that no line can name, loaded.
+    LongFileLoaded,
+    /// A malformed text, one line of which names words that are missing.
+    MalformedFirst,
+    /// Missing words, and a line past the memory.
+    MissingFirst,
+    /// A pair of 65,536 words, written.
+    WholeMemoryWritten,
     /// A branch by $8000, taken.
     FarBranchTaken,
     /// A branch by $8000, listed.
@@ -77,12 +97,21 @@ pub(crate) enum Occasion {
 }
 
 /// All of them, as they are printed.
-const OCCASIONS: [(Occasion, &str); 22] = [
+const OCCASIONS: [(Occasion, &str); 31] = [
     (Occasion::LongRun, "budgets of 5,000 to 999,997 spent"),
     (Occasion::LongWait, "limits of 64 to 4,095 with such a wait"),
     (Occasion::LongOver, "passed"),
     (Occasion::ManyRecordsLoaded, "files of more than three records loaded"),
     (Occasion::ManyRecordsWritten, "and written"),
+    (Occasion::ManyLinesLoaded, "texts of more than three mapping lines loaded"),
+    (Occasion::EmptyLineLoaded, "with an empty line"),
+    (Occasion::TargetsOverlap, "with two lines for one address"),
+    (Occasion::LastWordLoaded, "up to the memory's last word"),
+    (Occasion::LongestLineLoaded, "with a line of 65,536 words"),
+    (Occasion::LongFileLoaded, "with words that no line can name"),
+    (Occasion::MalformedFirst, "refused by 15 where 16 holds too"),
+    (Occasion::MissingFirst, "by 16 where 11 does"),
+    (Occasion::WholeMemoryWritten, "pairs of 65,536 words written"),
     (Occasion::FarBranchTaken, "branches by $8000 taken"),
     (Occasion::FarBranchListed, "listed"),
     (Occasion::FarBranchAssembled, "assembled"),
@@ -225,7 +254,7 @@ fn least(counts: &[u64; OPCODES]) -> u64 {
 impl fmt::Display for Tally {
     fn fmt(&self, f: &mut fmt::Formatter<'_>) -> fmt::Result {
         for Answers { call, refusals, kinds } in ANSWERS {
-            write!(f, "{call:9}")?;
+            write!(f, "{call:10}")?;
             for &kind in kinds {
                 write!(f, " {kind} {},", self.met(call, Answer::Kind(kind)))?;
             }

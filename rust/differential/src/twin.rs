@@ -40,6 +40,16 @@ pub fn any_length(random: &mut Random, least: usize) -> usize {
     if random.one_in(32) { random.size_below(least) } else { least + random.size_below(4) }
 }
 
+/// A room around the length of a file that is to be written into it.
+pub fn any_file_room(random: &mut Random, length: usize) -> usize {
+    match random.below(8) {
+        0 => length - 1,
+        1 => random.size_below(length),
+        2 => length,
+        _ => length + random.size_below(8),
+    }
+}
+
 impl<T: Item> Twin<T> {
     pub fn of(random: &mut Random, items: &[T]) -> Twin<T> {
         let mut guard = || (0..GUARD).map(|_| T::of(random.any())).collect::<Vec<T>>();

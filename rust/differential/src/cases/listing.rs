@@ -1,6 +1,6 @@
 //! Cases of the lister and of the assembler.
 
-use super::{board, memory, same, same_items, wanted};
+use super::{Room, board, memory, same, wanted};
 use crate::kit::Kit;
 use crate::rows::{self, Fields};
 use cp1610::{Listed, TEXT_ROOM};
@@ -11,18 +11,17 @@ const BLANK: u8 = b'#';
 pub(super) fn list<K: Kit>(before: &mut Fields, after: &mut Fields) -> Result<(), String> {
     let (address, d) = (before.word("address", 0)?, before.bit("d", false)?);
     let board = board::<K>(before)?;
-    let (memory, mut room) = (memory(before)?, vec![BLANK; before.number("room", TEXT_ROOM)?]);
-    let mut last_room = room.clone();
+    let (memory, mut room) = (memory(before)?, Room::new(BLANK, before.number("room", TEXT_ROOM)?));
     let wanted = wanted(after, |answer, after| {
-        let text = after.take("text").unwrap_or_default().as_bytes();
-        let (Some(line), "listed") = (last_room.get_mut(..text.len()), answer) else {
+        if answer != "listed" {
             return Ok(None);
-        };
-        line.copy_from_slice(text);
+        }
+        let text = after.take("text").unwrap_or_default().as_bytes();
+        room.want(text)?;
         Ok(Some(Listed { length: text.len(), words: after.number("words", 0)?, next_d: after.bit("d", false)? }))
     })?;
-    same("answer", K::list(&memory, &board, address, d, &mut room), wanted)?;
-    same_items("room", &room, &last_room)
+    same("answer", K::list(&memory, &board, address, d, &mut room.lent), wanted)?;
+    room.compare("room")
 }
 
 pub(super) fn assemble<K: Kit>(before: &mut Fields, after: &mut Fields) -> Result<(), String> {

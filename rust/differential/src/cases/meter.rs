@@ -1,6 +1,6 @@
 //! Cases of the wait meter.
 
-use super::{board, memory, same, wanted};
+use super::{board, ends, memory, same, wanted};
 use crate::kit::Kit;
 use crate::rows::{self, Fields};
 use cp1610::{Longest, Region, Wait};
@@ -21,7 +21,7 @@ pub(super) fn wait<K: Kit>(before: &mut Fields, after: &mut Fields) -> Result<()
 }
 
 pub(super) fn region<K: Kit>(before: &mut Fields, after: &mut Fields) -> Result<(), String> {
-    let (first, last, limit) = (before.word("first", 0)?, before.word("last", 0)?, before.number("limit", 0)?);
+    let ((first, last), limit) = (ends(before)?, before.number("limit", 0)?);
     let (memory, board) = (memory(before)?, board::<K>(before)?);
     let wanted = wanted(after, |answer, after| {
         if answer != "found" {
