@@ -1,11 +1,11 @@
-/* Drives the meter, the lister, the assembler, the loader and the writer, whose machine instructions bench/measure counts, all under
- * the all-RAM map. Each line printed begins with what to divide by. */
+/* Drives the meter, the lister, the assembler and the loaders and writers of images and of pairs, whose machine instructions bench/measure
+ * counts, those that take a map under all-RAM. Each line printed begins with what to divide by. */
 #include <cp1610.h>
 #include <stdio.h>
 #include <string.h>
 
 static uint16_t mem[65536], back[65536];
-static uint8_t file[131464];
+static uint8_t file[131464], bin[131072], cfg[CP1610_CFG_ROOM];
 
 /* The same made-up words on every machine. */
 static void fill(void) {
@@ -35,12 +35,30 @@ static int lines(void) {
     return count;
 }
 
+/* Says what was written and loaded, whether all words have come back, and clears them for the next. */
+static int is_back(const char *what) {
+    int equal = memcmp(mem, back, sizeof mem) == 0;
+    printf("65536 words written and loaded as %s, %s\n", what, equal ? "equal" : "DIFFERENT");
+    memset(back, 0, sizeof back);
+    return equal;
+}
+
+static int image(void) {
+    uint64_t written = cp1610_write(2, mem, 65536, 0, 65535, file, sizeof file);
+    cp1610_load(2, back, 65536, file, cp1610_value_of(written));
+    return is_back("an image");
+}
+
+static int pair(void) {
+    uint32_t out[CP1610_PAIR_WORDS] = {0};
+    cp1610_write_pair(mem, 65536, 0, 65535, bin, sizeof bin, cfg, sizeof cfg, out, CP1610_PAIR_WORDS);
+    cp1610_load_pair(back, 65536, bin, out[CP1610_BIN_LENGTH], cfg, out[CP1610_CFG_LENGTH]);
+    return is_back("a pair");
+}
+
 int main(void) {
     fill();
-    uint64_t written = cp1610_write(2, mem, 65536, 0, 65535, file, sizeof file);
-    uint64_t loaded = cp1610_load(2, back, 65536, file, cp1610_value_of(written));
-    int equal = memcmp(mem, back, sizeof mem) == 0;
-    printf("65536 words written and loaded, %u records, %s\n", cp1610_value_of(loaded), equal ? "equal" : "DIFFERENT");
+    int equal = image() & pair();
     int listed = lines();
     printf("%d lines listed and assembled\n", listed);
     uint32_t named[CP1610_REGION_WORDS];

@@ -8,6 +8,7 @@
 
 mod instructions;
 mod measured;
+mod pairs;
 mod programs;
 mod table;
 mod times;

@@ -3,6 +3,7 @@
 //! then too, as a program makes one for many calls; it is all-RAM unless the workload says another.
 
 use crate::measured::{Measured, digest, time_of};
+use crate::pairs;
 use crate::programs::{self, Program, SIX_RANGES, made_up_words, sixteen_ranges};
 use cp1610::{HIGHEST_BUDGET, HIGHEST_LIMIT, LONGEST_MEMORY, Lines, Range, TEXT_ROOM};
 use differential::{Handwritten, Kit, Proved};
@@ -18,12 +19,17 @@ pub struct Workload {
 }
 
 macro_rules! workload {
-    ($name:literal, $unit:literal, $measure:ident) => {
-        Workload { name: $name, unit: $unit, proved: $measure::<Proved>, handwritten: $measure::<Handwritten> }
+    ($name:literal, $unit:literal, $($measure:ident)::+ $(, $size:literal)?) => {
+        Workload {
+            name: $name,
+            unit: $unit,
+            proved: $($measure)::+::<Proved $(, $size)?>,
+            handwritten: $($measure)::+::<Handwritten $(, $size)?>,
+        }
     };
 }
 
-pub const WORKLOADS: [Workload; 15] = [
+pub const WORKLOADS: [Workload; 22] = [
     workload!("run-alu", "step", run_alu),
     workload!("run-copy", "step", run_copy),
     workload!("run-mixed", "step", run_mixed),
@@ -38,7 +44,14 @@ pub const WORKLOADS: [Workload; 15] = [
     workload!("assemble", "line", assemble),
     workload!("load", "word", load),
     workload!("write", "word", write),
-    workload!("write-and-load-16", "pair", small_files),
+    workload!("write-and-load-16", "file", small_files),
+    workload!("load-pair-16", "word", pairs::load, 16),
+    workload!("load-pair-1024", "word", pairs::load, 1_024),
+    workload!("load-pair", "word", pairs::load, 65_536),
+    workload!("load-pair-lines", "line", pairs::load_lines),
+    workload!("write-pair-16", "word", pairs::write, 16),
+    workload!("write-pair-1024", "word", pairs::write, 1_024),
+    workload!("write-pair", "word", pairs::write, 65_536),
 ];
 
 const SHORT_RUN: u32 = 100;
