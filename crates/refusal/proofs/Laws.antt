@@ -18,8 +18,10 @@ use Rattle.refusal.specs.declared.Refusal.the-variants.{
   WrongBoard,
   PastMemory,
   SumDiffers,
-  ImageRoomTooSmall,
+  RoomTooSmall,
   BadMap,
+  MalformedMapping,
+  MissingFileWords,
 }
 use Rattle.refusal.specs.Refusals.{refusalNumber, NumbersApart, NumbersLow}
 
@@ -40,8 +42,10 @@ numbered n =
     ∷ WrongBoard
     ∷ PastMemory
     ∷ SumDiffers
-    ∷ ImageRoomTooSmall
+    ∷ RoomTooSmall
     ∷ BadMap
+    ∷ MalformedMapping
+    ∷ MissingFileWords
     ∷ [])
     n
     MemoryTooLong
@@ -60,8 +64,10 @@ found MalformedImage = refl
 found WrongBoard = refl
 found PastMemory = refl
 found SumDiffers = refl
-found ImageRoomTooSmall = refl
+found RoomTooSmall = refl
 found BadMap = refl
+found MalformedMapping = refl
+found MissingFileWords = refl
 
 pub numbers-apart : NumbersApart
 numbers-apart a b e = sym (found a) ∙ ap numbered e ∙ found b
@@ -79,5 +85,7 @@ numbers-low MalformedImage = lit< tt
 numbers-low WrongBoard = lit< tt
 numbers-low PastMemory = lit< tt
 numbers-low SumDiffers = lit< tt
-numbers-low ImageRoomTooSmall = lit< tt
+numbers-low RoomTooSmall = lit< tt
 numbers-low BadMap = lit< tt
+numbers-low MalformedMapping = lit< tt
+numbers-low MissingFileWords = lit< tt

@@ -15,8 +15,10 @@ use Rattle.refusal.specs.declared.Refusal.the-variants.{
   WrongBoard,
   PastMemory,
   SumDiffers,
-  ImageRoomTooSmall,
+  RoomTooSmall,
   BadMap,
+  MalformedMapping,
+  MissingFileWords,
 }
 
 abbrev pub refusalNumber : Refusal → ℕ
@@ -40,14 +42,18 @@ refusalNumber LimitTooHigh = 8
 refusalNumber MalformedImage = 9
 -- ID board not the board given
 refusalNumber WrongBoard = 10
--- record or written region past the lent memory
+-- record, mapping target or written region past the lent memory
 refusalNumber PastMemory = 11
 -- sum differs
 refusalNumber SumDiffers = 12
--- image room too small
-refusalNumber ImageRoomTooSmall = 13
+-- image room too small, or either room of a written pair
+refusalNumber RoomTooSmall = 13
 -- document 02: more than 16 ranges or one with first above last
 refusalNumber BadMap = 14
+-- document 02: no first line, or a line not of this form or with its first word above its last
+refusalNumber MalformedMapping = 15
+-- document 02: file words named that aren't there or an odd byte count
+refusalNumber MissingFileWords = 16
 
 -- no two refusals share a number
 abbrev pub NumbersApart : Type 0

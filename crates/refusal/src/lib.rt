@@ -16,8 +16,10 @@ pub enum Refusal {
     WrongBoard,
     PastMemory,
     SumDiffers,
-    ImageRoomTooSmall,
+    RoomTooSmall,
     BadMap,
+    MalformedMapping,
+    MissingFileWords,
 }
 
 // Document 01's number of a refusal.
@@ -37,7 +39,9 @@ pub fn number(refusal: Refusal) -> u16
         Refusal::WrongBoard => 10,
         Refusal::PastMemory => 11,
         Refusal::SumDiffers => 12,
-        Refusal::ImageRoomTooSmall => 13,
+        Refusal::RoomTooSmall => 13,
         Refusal::BadMap => 14,
+        Refusal::MalformedMapping => 15,
+        Refusal::MissingFileWords => 16,
     }
 }

@@ -1,0 +1,67 @@
+-- A mapping text, read from its front: "15, no first line, or a line not of this form or with its first word above its last". Which texts
+-- are lines is said by printing: `TakesTexts` of Laws has it without any reading.
+use Prim.Native.Nat.{ℕ, zero, suc, _+_, _*_}
+use mathlib.Core.Bool.{Bool, true, false, cond, _&&_}
+use mathlib.Core.List.{List, [], _∷_}
+use lib.Dec.{eqb, leb}
+use lib.ListN.{length, getD, drop}
+use Rattle.text.specs.Text.{digitValue}
+use Rattle.pair.specs.declared.line.Mapping.{Mapping}
+use Rattle.pair.specs.declared.line.Front.{Front}
+use Rattle.pair.specs.declared.line.Front.the-variants.{Blank, Line, Malformed}
+use Rattle.pair.specs.Format.{headLine, lineFeed, mappingLine, lineBytes}
+
+-- the number whose four digits stand at a place, if digits stand there
+unfoldable pub numberAt : List ℕ → ℕ → ℕ
+numberAt text i =
+    digitValue (getD text i 0) * 0x1000
+    + digitValue (getD text (i + 1) 0) * 0x100
+    + digitValue (getD text (i + 2) 0) * 0x10
+    + digitValue (getD text (i + 3) 0)
+
+-- the mapping whose line stands at the front, if one does: its numbers stand where `$0000 - $0FFF = $5000` has them
+abbrev pub mappingAt : List ℕ → Mapping
+mappingAt text = record { first = numberAt text 1; last = numberAt text 9; target = numberAt text 17 }
+
+-- whether a text begins with another
+abbrev pub startsWith : List ℕ → List ℕ → Bool
+startsWith text [] = true
+startsWith [] (b ∷ front) = false
+startsWith (a ∷ text) (b ∷ front) = eqb a b && startsWith text front
+
+-- a mapping's line stands at the front, and its first word is not above its last
+abbrev pub isLine : List ℕ → Mapping → Bool
+isLine text m = startsWith text (mappingLine m) && leb (m .first) (m .last)
+
+-- what stands at the front: an empty line, a mapping's line, or neither
+unfoldable pub frontOf : List ℕ → Front
+frontOf text =
+    cond (startsWith text (lineFeed ∷ [])) Blank
+    (cond (isLine text (mappingAt text)) (Line (mappingAt text)) Malformed)
+
+-- all lines behind the first one: their mappings, or that one is malformed
+pub data Lines : Type 0 where
+  listed : List Mapping → Lines
+  malformed : Lines
+
+abbrev pub withMapping : Mapping → Lines → Lines
+withMapping m (listed ms) = listed (m ∷ ms)
+withMapping m malformed = malformed
+
+-- a line is followed by the rest of the text, which `on` reads
+abbrev pub follow : (List ℕ → Lines) → List ℕ → Front → Lines
+follow on text Blank = on (drop 1 text)
+follow on text (Line m) = withMapping m (on (drop lineBytes text))
+follow on text Malformed = malformed
+
+-- by at most n lines: each has a byte or more, so that n runs out only at the end of the text. `LinesEquation` says the same without n.
+abbrev pub linesFrom : ℕ → List ℕ → Lines
+linesFrom zero text = listed []
+linesFrom (suc n) text = cond (eqb (length text) 0) (listed []) (follow (linesFrom n) text (frontOf text))
+
+unfoldable pub linesOf : List ℕ → Lines
+linesOf text = linesFrom (length text) text
+
+-- the whole text: "only `[mapping]` first", then its lines
+unfoldable pub mappingsOf : List ℕ → Lines
+mappingsOf cfg = cond (startsWith cfg headLine) (linesOf (drop (length headLine) cfg)) malformed

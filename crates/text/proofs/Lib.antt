@@ -1,0 +1,3 @@
+-- Computed tests, and laws of digits and of texts compared.
+pub mod Tests
+pub mod Digits
