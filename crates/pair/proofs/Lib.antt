@@ -5,3 +5,7 @@ pub mod PassLaws
 pub mod StoreLaws
 pub mod LoadLaws
 pub mod WriteLaws
+pub mod TextLaws
+pub mod TripLaws
+pub mod OutcomeLaws
+pub mod Examples

@@ -88,7 +88,7 @@ lines-malformed m bin (listed ms) e f = let z : _≡_ {A = ℕ} 0 1 = cc in absu
 lines-malformed m bin malformed e f = refl
 
 -- The tests of good lines, in their order.
-records-count : (words : List ℕ) (ms : List Mapping) → length (recordsOf words ms) ≡ length ms
+pub records-count : (words : List ℕ) (ms : List Mapping) → length (recordsOf words ms) ≡ length ms
 records-count words [] = refl
 records-count words (m ∷ ms) = ap suc (records-count words ms)
 
