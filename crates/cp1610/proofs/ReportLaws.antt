@@ -51,7 +51,7 @@ use Rattle.meter.specs.Walk.{
 }
 use Rattle.meter.specs.Meter.{waitOf, regionOf}
 use Rattle.listing.specs.Disassemble.{entryAt, textAt, Disassembly, listedDisassembly, disassembleOf}
-use Rattle.listing.specs.Text.{sameText}
+use Rattle.text.specs.Text.{sameText}
 use Rattle.listing.specs.Cut.{cutWords, cutAt}
 use Rattle.listing.specs.Assemble.{heldTo, orElse, anyBelow, assembleOf}
 use Rattle.listing.proofs.Bounds.{lines-bounded}

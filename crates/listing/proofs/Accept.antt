@@ -15,11 +15,12 @@ use Rattle.memory.proofs.Laws.{fits-words}
 use Rattle.memory.proofs.BusLaws.{bus-laws, read-within}
 use Rattle.decode.specs.Fields.{opcodeOf}
 use Rattle.decode.specs.Decode.{decodeWords}
+use Rattle.text.specs.Text.{sameText}
+use Rattle.text.proofs.Tests.{clash, same-true, same-eq}
 use Rattle.listing.specs.declared.line.Line.{Line}
 use Rattle.listing.specs.declared.entry.RowEntry.{RowEntry}
 use Rattle.refusal.specs.Report.{Report, answered}
 use Rattle.refusal.proofs.ReportLaws.{no-answer, same-answer}
-use Rattle.listing.specs.Text.{sameText}
 use Rattle.listing.specs.Disassemble.{textAt}
 use Rattle.listing.specs.Cut.{cutAt}
 use Rattle.listing.specs.Assemble.{noLine, heldTo, assembleOf}
@@ -30,7 +31,6 @@ use Rattle.listing.specs.inner.Table.{paddedOf, endsAt}
 use Rattle.listing.specs.inner.Guess.{Guesses}
 use Rattle.listing.specs.inner.Entry.{rowEntryOf, rowEntryAt, rowTextAt}
 use Rattle.listing.specs.inner.Encode.{lineRead, wordCount, jumpWord, jumpWords, plainWords, opcodeIn, encoded, firstWords, memoryAs}
-use Rattle.listing.proofs.Tests.{clash, same-true, same-eq}
 use Rattle.listing.proofs.Table.{base-low, ends-length}
 use Rattle.listing.proofs.Lines.{text-length}
 use Rattle.listing.proofs.Entries.{entry-in, entry-of-words}

@@ -8,42 +8,29 @@ use native.Mathlib.Omega.{arith}
 use lib.Dec.{T, eqb, ltb, eqb→eq, lit<}
 use borrow.Author.Tests.{eqb-true, ne-eqb}
 use Rattle.word.proofs.Choice.{cond-both}
-use Rattle.listing.specs.Text.{codes, digitOf}
+use Rattle.text.specs.Text.{codes, digitValue}
+use Rattle.text.proofs.Tests.{both-left, both-right}
+use Rattle.text.proofs.Digits.{digit-laws}
 use Rattle.listing.specs.inner.Rows.{firstLetter, templateOf}
 use Rattle.listing.specs.inner.Line.{lineWith, fieldOf, glyphOf, textOf}
-use Rattle.listing.specs.inner.Encode.{valueOf, signValue, withSymbol, readIn, lineRead}
+use Rattle.listing.specs.inner.Encode.{withSymbol, readIn, lineRead}
 use Rattle.listing.specs.declared.line.Line.{Line}
-use Rattle.listing.proofs.Tests.{below-at, both-left, both-right}
 use Rattle.listing.proofs.Table.{hexes, showsOperand, template-hexes}
-
-abbrev digit-back : ℕ → Bool
-digit-back v = eqb (valueOf (digitOf v)) v
-
-value-digit : (v : ℕ) → v < 16 → valueOf (digitOf v) ≡ v
-unfolding valueOf digitOf
-value-digit v h = eqb→eq (valueOf (digitOf v)) v (below-at digit-back 16 tt v h)
-
-pub value-16 : (c : ℕ) → valueOf c < 16
-unfolding valueOf
-value-16 c = cond-both (λ n. n < 16) (ltb c (code "A")) (omega arith) (omega arith)
 
 -- the row stays, and the operand is a word
 taken-row : (l : Line) (h c : ℕ) → withSymbol l h c .row ≡ l .row
 unfolding withSymbol
-taken-row l h c = go (ltb h firstLetter) (eqb h (code "s")) (eqb h (code "d")) (eqb h (code "g"))
-  where
-    P : Line → Type 0
-    P x = x .row ≡ l .row
-
-    go : (a b d g : Bool) → P (cond a l (cond b (lineWith (l .row) (valueOf c) (l .d) (l .operand)) (cond d (lineWith (l .row) (l .s) (valueOf c) (l .operand)) (cond g (lineWith (l .row) (signValue c) (l .d) (l .operand)) (lineWith (l .row) (l .s) (l .d) (l .operand % 4096 * 16 + valueOf c))))))
-    go a b d g = cond-both P a refl (cond-both P b refl (cond-both P d refl (cond-both P g refl refl)))
+taken-row l h c =
+    let P : Line → Type 0 = λ x. x .row ≡ l .row in
+    cond-both P (ltb h firstLetter) refl
+    (cond-both P (eqb h (code "s")) refl (cond-both P (eqb h (code "d")) refl (cond-both P (eqb h (code "g")) refl refl)))
 
 taken-16 : (l : Line) (h c : ℕ) → l .operand < 65536 → withSymbol l h c .operand < 65536
 unfolding withSymbol
 taken-16 l h c k =
     let P : Line → Type 0 = λ x. x .operand < 65536 in
     cond-both P (ltb h firstLetter) k
-    (cond-both P (eqb h (code "s")) k (cond-both P (eqb h (code "d")) k (cond-both P (eqb h (code "g")) k (omega (arith, value-16 c)))))
+    (cond-both P (eqb h (code "s")) k (cond-both P (eqb h (code "d")) k (cond-both P (eqb h (code "g")) k (omega (arith, digit-laws .low c)))))
 
 in-row : (t text : List ℕ) (l : Line) → readIn t text l .row ≡ l .row
 in-row [] text l = refl
@@ -100,7 +87,7 @@ module _ (r s d x y : ℕ) where
 -- the operand is read from its digits alone
 abbrev digitsIn : Line → List ℕ → ℕ → ℕ
 digitsIn l [] x = x
-digitsIn l (h ∷ t) x = digitsIn l t (x % 4096 * 16 + valueOf (glyphOf l h))
+digitsIn l (h ∷ t) x = digitsIn l t (x % 4096 * 16 + digitValue (glyphOf l h))
 
 hex-step : (l : Line) (h : ℕ) (t : List ℕ) (f : Line) → digitsIn l (hexes t) (withSymbol f h (glyphOf l h) .operand) ≡ digitsIn l (hexes (h ∷ t)) (f .operand)
 unfolding withSymbol
@@ -131,10 +118,10 @@ four : (l : Line) → l .operand < 65536 → digitsIn l (codes "wxyz") 0 ≡ l .
 unfolding glyphOf fieldOf
 four l h =
     rw (
-      value-digit (l .operand / 4096 % 16) (omega arith),
-      value-digit (l .operand / 256 % 16) (omega arith),
-      value-digit (l .operand / 16 % 16) (omega arith),
-      value-digit (l .operand % 16) (omega arith),
+      digit-laws .back (l .operand / 4096 % 16) (omega arith),
+      digit-laws .back (l .operand / 256 % 16) (omega arith),
+      digit-laws .back (l .operand / 16 % 16) (omega arith),
+      digit-laws .back (l .operand % 16) (omega arith),
     )
     (digits (l .operand) h)
 

@@ -11,7 +11,7 @@ use Rattle.memory.specs.Bus.{busOf, readOf}
 use Rattle.decode.specs.Fields.{joined, returnOf, jumpTarget}
 use Rattle.decode.specs.Decode.{controlInstruction, statusInstruction, lowInstruction, instructionOf, isUnspecified, decodeAt}
 use Rattle.decode.specs.Rows.{interruptibleEntry, plainEntry, jumpEntry, registerEntry, shiftEntry, branchEntry, memoryWords, storeEntry, readWords, readEntry}
-use Rattle.listing.specs.Text.{digitOf, hexOf}
+use Rattle.text.specs.Text.{digitOf, hexOf}
 use Rattle.listing.specs.Line.{
   singleNames,
   shiftNames,

@@ -9,12 +9,12 @@ use lib.Dec.{T, eqb, ltb, eqb→eq, leb→le}
 use lib.ListN.{length, getD}
 use borrow.Author.Tests.{eqb-true, ltb-true, ltb-false, le-ltb}
 use Rattle.word.proofs.Choice.{cond-both}
+use Rattle.text.proofs.Tests.{below, below-at, both-left, both-right}
 use Rattle.listing.specs.declared.line.Line.{Line}
 use Rattle.listing.specs.declared.guess.Start.{Start}
 use Rattle.listing.specs.inner.Rows.{firstLetter, rows, templateOf}
 use Rattle.listing.specs.inner.Line.{signOf, glyphOf, textOf}
 use Rattle.listing.specs.inner.Guess.{Guesses, Names, only, letter, bytes, byteOf, told, names, startOf, guessOf}
-use Rattle.listing.proofs.Tests.{below, below-at, both-left, both-right}
 use Rattle.listing.proofs.Table.{template-least}
 use Rattle.listing.proofs.Lines.{text-length, text-at}
 

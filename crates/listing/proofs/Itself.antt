@@ -9,9 +9,9 @@ use lib.ListN.{length, getD}
 use Rattle.word.specs.Word.{wrapAdd}
 use Rattle.memory.specs.Bus.{busOf, readOf}
 use Rattle.decode.specs.Fields.{opcodeOf}
+use Rattle.text.specs.Text.{codes}
 use Rattle.listing.specs.declared.entry.RowEntry.{RowEntry}
 use Rattle.refusal.specs.Report.{answered}
-use Rattle.listing.specs.Text.{codes}
 use Rattle.listing.specs.Disassemble.{entryAt, textAt}
 use Rattle.listing.specs.Assemble.{assembleOf}
 use Rattle.listing.specs.Laws.{Stand, WordsOf, AssembledListsAsItself}

@@ -8,14 +8,15 @@ use lib.Dec.{T, eqb, leb, eqb→eq}
 use borrow.Author.Tests.{eqb-true, eqb-false, lt-ltb, le-ltb, le-leb}
 use Rattle.word.proofs.Choice.{cond-either}
 use Rattle.decode.specs.Fields.{jumpTarget}
-use Rattle.listing.specs.Text.{digitOf}
+use Rattle.text.specs.Text.{digitOf, digitValue}
+use Rattle.text.proofs.Tests.{below, below-at, both-left, both-right, clash}
 use Rattle.listing.specs.Cut.{cutWords}
 use Rattle.listing.specs.inner.Rows.{rows, templateOf, baseOf}
 use Rattle.listing.specs.inner.Line.{lineWith, signOf, fieldOf, glyphOf, textOf}
 use Rattle.listing.specs.inner.Entry.{jumpLine}
-use Rattle.listing.specs.inner.Encode.{valueOf, withSymbol, lineRead, jumpWord, jumpWords, encoded}
+use Rattle.listing.specs.inner.Encode.{withSymbol, lineRead, jumpWord, jumpWords, encoded}
 use Rattle.listing.specs.declared.line.Line.{Line}
-use Rattle.listing.proofs.Tests.{truth, below, below-at, both-left, both-right, imp, imp-at, clash}
+use Rattle.listing.proofs.Tests.{truth, imp, imp-at}
 use Rattle.listing.proofs.Table.{showsOperand}
 use Rattle.listing.proofs.Entries.{jump-line}
 use Rattle.listing.proofs.Back.{backs, read-back}
@@ -37,11 +38,11 @@ abbrev calls-back : ℕ → Bool
 calls-back k = backs (82 + k / 4) 0 (k % 4 + 4) && showsOperand (templateOf (82 + k / 4))
 
 goes-test : T (below goes-back 3)
-unfolding lineRead withSymbol valueOf textOf glyphOf fieldOf digitOf signOf templateOf rows
+unfolding lineRead withSymbol digitValue textOf glyphOf fieldOf digitOf signOf templateOf rows
 goes-test = tt
 
 calls-test : T (below calls-back 12)
-unfolding lineRead withSymbol valueOf textOf glyphOf fieldOf digitOf signOf templateOf rows
+unfolding lineRead withSymbol digitValue textOf glyphOf fieldOf digitOf signOf templateOf rows
 calls-test = tt
 
 goes : (e x : ℕ) → e < 3 → x < 65536 → lineRead (79 + e) (textOf (lineWith (79 + e) 0 0 x)) ≡ lineWith (79 + e) 0 0 x

@@ -1,6 +1,5 @@
 -- Laws of the table, of lines, and of the round trip.
 pub mod Tests
-pub mod Digits
 pub mod Table
 pub mod Lines
 pub mod Reading

@@ -11,8 +11,8 @@ use borrow.Author.Tests.{eq-eqb, ne-eqb}
 use lib.Dec.{eqb, lit<}
 use lib.ListN.{length, getD, drop, take, set, drop-of-length-le}
 use lib.Seq.{drop-cons, paste-suc, take-length}
+use Rattle.text.specs.Text.{codes, digitOf, sameText}
 use Rattle.listing.specs.inner.Rows.{templateOf}
-use Rattle.listing.specs.Text.{codes, digitOf, sameText}
 use Rattle.listing.specs.inner.Line.{fieldOf, glyphOf, textOf}
 use Rattle.listing.specs.inner.Table.{paddedOf, OfRegisters}
 use Rattle.listing.proofs.Table.{registers-template, registers-name}

@@ -9,13 +9,14 @@ use Rattle.decode.specs.declared.Instr.the-variants.{Hlt, Control, Jump, Single
 use Rattle.decode.specs.Fields.{isExternal, inputNumber}
 use Rattle.decode.specs.Decode.{controlInstruction, statusInstruction, lowInstruction, instructionOf, decodeWords}
 use Rattle.decode.specs.Rows.{interruptibleEntry, plainEntry, haltEntry, controlEntry, jumpEntry, registerEntry, shiftEntry, branchEntry, memoryWords, storeEntry, readWords, readEntry, rowOf}
-use Rattle.listing.specs.Text.{digitOf}
+use Rattle.text.specs.Text.{digitOf, digitValue}
+use Rattle.text.proofs.Tests.{below, below-at, both-left, both-right, clash}
 use Rattle.listing.specs.inner.Rows.{rows, templateOf, baseOf}
 use Rattle.listing.specs.inner.Line.{lineWith, signOf, fieldOf, glyphOf, textOf}
 use Rattle.listing.specs.inner.Entry.{controlLine, singleLine, shiftLine, branchSign, branchLine, memoryLine, registerLine, rowLineOf}
-use Rattle.listing.specs.inner.Encode.{valueOf, withSymbol, lineRead, wordCount}
+use Rattle.listing.specs.inner.Encode.{withSymbol, lineRead, wordCount}
 use Rattle.listing.specs.declared.line.Line.{Line}
-use Rattle.listing.proofs.Tests.{below, below-at, both-left, both-right, imp, imp-at, clash}
+use Rattle.listing.proofs.Tests.{imp, imp-at}
 use Rattle.listing.proofs.Table.{showsOperand}
 use Rattle.listing.proofs.Back.{backs}
 
@@ -93,7 +94,7 @@ rule w =
     && (counts w false && counts w true)))
 
 rule-test : T (below rule 1024)
-unfolding shape instructionOf lowInstruction controlInstruction statusInstruction controlLine singleLine shiftLine branchLine memoryLine registerLine interruptibleEntry plainEntry haltEntry controlEntry jumpEntry registerEntry shiftEntry branchEntry memoryWords storeEntry readWords readEntry baseOf lineRead withSymbol valueOf textOf glyphOf fieldOf digitOf signOf templateOf rows
+unfolding shape instructionOf lowInstruction controlInstruction statusInstruction controlLine singleLine shiftLine branchLine memoryLine registerLine interruptibleEntry plainEntry haltEntry controlEntry jumpEntry registerEntry shiftEntry branchEntry memoryWords storeEntry readWords readEntry baseOf lineRead withSymbol digitValue textOf glyphOf fieldOf digitOf signOf templateOf rows
 rule-test = tt
 
 module _ (w : ℕ) (h : w < 1024) (e : eqb w 4 ≡ false) where

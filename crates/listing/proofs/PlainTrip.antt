@@ -10,13 +10,14 @@ use Rattle.word.proofs.Choice.{cond-both}
 use Rattle.decode.specs.Fields.{joined}
 use Rattle.decode.specs.Decode.{instructionOf}
 use Rattle.decode.specs.Rows.{rowOf}
+use Rattle.text.proofs.Tests.{both-left, both-right, clash}
 use Rattle.listing.specs.Line.{lineOperand}
 use Rattle.listing.specs.Cut.{cutWords}
 use Rattle.listing.specs.inner.Rows.{templateOf}
 use Rattle.listing.specs.inner.Line.{textOf}
 use Rattle.listing.specs.inner.Entry.{rowLineOf, rowEntryFor}
 use Rattle.listing.specs.inner.Encode.{lineRead, plainWords, encoded, firstWords}
-use Rattle.listing.proofs.Tests.{truth, both-left, both-right, clash}
+use Rattle.listing.proofs.Tests.{truth}
 use Rattle.listing.proofs.Table.{showsOperand}
 use Rattle.listing.proofs.Back.{read-back}
 use Rattle.listing.proofs.EntryWith.{entryWith, cutWith, rowEntry, Trip}

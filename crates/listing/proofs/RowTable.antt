@@ -11,11 +11,12 @@ use Rattle.decode.specs.declared.Decoded.the-variants.{Unspecified, Known}
 use Rattle.decode.specs.Fields.{opcodeOf, fieldS, jumpBits}
 use Rattle.decode.specs.Decode.{controlInstruction, statusInstruction, lowInstruction, instructionOf, isUnspecified, decodeAt}
 use Rattle.decode.specs.Rows.{interruptibleEntry, plainEntry, haltEntry, controlEntry, jumpEntry, registerEntry, shiftEntry, branchEntry, memoryWords, storeEntry, readWords, readEntry, rowOf}
-use Rattle.listing.specs.Text.{hexOf}
+use Rattle.text.specs.Text.{hexOf}
+use Rattle.text.proofs.Tests.{below, below-at, both-left, both-right}
 use Rattle.listing.specs.Line.{lineOf, lineOperand}
 use Rattle.listing.specs.Disassemble.{Entry, decleEntry, entryAt}
 use Rattle.listing.specs.Laws.{EveryRowFollows}
-use Rattle.listing.proofs.Tests.{below, below-at, both-left, both-right, imp, imp-at}
+use Rattle.listing.proofs.Tests.{imp, imp-at}
 
 known-one : {A : Type 0} {i : Instr} → Unspecified ≡ Known i → A
 known-one e = let z : _≡_ {A = ℕ} 0 1 = cc in absurd (omega arith)

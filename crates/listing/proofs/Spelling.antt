@@ -19,15 +19,16 @@ use Rattle.decode.specs.declared.Decoded.the-variants.{Known}
 use Rattle.decode.specs.Fields.{Mode, direct, through, rising, stack, immediate, modeOf, isBackward, isExternal, isNegated, inputNumber, conditionNumber, Return, noReturn, returnIn, returnOf, jumpTarget, jumpBits, opcodeOf}
 use Rattle.decode.specs.Decode.{controlInstruction, statusInstruction, lowInstruction, instructionOf, isUnspecified, decodeAt}
 use Rattle.decode.specs.Rows.{interruptibleEntry, jumpEntry, rowOf}
+use Rattle.text.specs.Text.{codes, digitOf, hexOf, sameText}
+use Rattle.text.proofs.Tests.{below, below-at, both-left, both-right, same-eq, clash}
 use Rattle.listing.specs.declared.line.Line.{Line}
-use Rattle.listing.specs.Text.{codes, digitOf, hexOf, sameText}
 use Rattle.listing.specs.Line.{nameIn, controlNames, singleNames, shiftNames, rowNames, conditionNames, negatedNames, inputNames, jumpNames, callNames, nopNames, sinNames, registerText, modeMark, modeText, branchText, jumpText, lineOf, lineOperand}
 use Rattle.listing.specs.Disassemble.{Entry, decleEntry, entryOf, entryAt, textAt}
 use Rattle.listing.specs.inner.Rows.{firstLetter, rows, templateOf}
 use Rattle.listing.specs.inner.Line.{lineWith, signOf, fieldOf, glyphOf, textOf}
 use Rattle.listing.specs.inner.Entry.{jumpLine, controlLine, singleLine, shiftLine, branchLine, memoryLine, registerLine, rowLineOf, rowEntryFor, rowTextAt, shown}
 use Rattle.listing.specs.inner.Laws.{RowsSpellLines}
-use Rattle.listing.proofs.Tests.{truth, below, below-at, both-left, both-right, imp, imp-at, same-eq, clash}
+use Rattle.listing.proofs.Tests.{truth, imp, imp-at}
 use Rattle.listing.proofs.Table.{isHex}
 use Rattle.listing.proofs.Entries.{return-of, jump-line}
 use Rattle.listing.proofs.EntryWith.{rowEntry, entryWith, entry-with}

@@ -11,11 +11,12 @@ use lib.Dec.{T, eqb, leb, ltb, eqb→eq, leb→le}
 use lib.ListN.{length, getD, List·getD-eq-default}
 use borrow.Author.Tests.{eq-eqb, ne-eqb, lt-ltb, eqb-true}
 use Rattle.memory.proofs.Laws.{getD-within}
-use Rattle.listing.specs.Text.{codes, sameText}
+use Rattle.text.specs.Text.{codes, sameText}
+use Rattle.text.proofs.Tests.{below, below-at, both-left, both-right, same-eq, clash}
 use Rattle.listing.specs.inner.Rows.{firstLetter, rows, templateOf, baseOf}
 use Rattle.listing.specs.declared.rows.TableRow.{TableRow}
 use Rattle.listing.specs.inner.Table.{end, pad, paddedOf, OfRegisters, window, rowAmong, endsAt}
-use Rattle.listing.proofs.Tests.{truth, below, below-at, imp, imp-at, both-left, both-right, same-eq, clash}
+use Rattle.listing.proofs.Tests.{truth, imp, imp-at}
 
 -- the row r as the code keeps it
 abbrev pub Kept : ℕ → TableRow → Type 0

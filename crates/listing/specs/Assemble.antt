@@ -6,7 +6,7 @@ use Rattle.refusal.specs.declared.Refusal.the-variants.{NotAListingLine}
 use Rattle.refusal.specs.Refusals.{refusalNumber}
 use Rattle.refusal.specs.Report.{Report, refused, answered}
 use Rattle.memory.specs.Bus.{busOf, readOf}
-use Rattle.listing.specs.Text.{sameText}
+use Rattle.text.specs.Text.{sameText}
 use Rattle.listing.specs.Disassemble.{textAt}
 use Rattle.listing.specs.Cut.{cutAt}
 

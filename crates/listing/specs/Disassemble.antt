@@ -15,8 +15,8 @@ use Rattle.decode.specs.declared.Decoded.{Decoded}
 use Rattle.decode.specs.declared.Decoded.the-variants.{Unspecified, Known}
 use Rattle.decode.specs.Decode.{decodeAt}
 use Rattle.decode.specs.Rows.{rowOf}
+use Rattle.text.specs.Text.{codes, hexOf}
 use Rattle.listing.specs.declared.Listing.{Listing}
-use Rattle.listing.specs.Text.{codes, hexOf}
 use Rattle.listing.specs.Answer.{ListedLine, listedLine, listingReported}
 use Rattle.listing.specs.Line.{lineOf, lineOperand}
 

@@ -6,7 +6,7 @@ use mathlib.Core.Bool.{true, false}
 use mathlib.Core.List.{List, [], _∷_}
 use Rattle.refusal.specs.Report.{answered}
 use Rattle.memory.specs.Bus.{busOf, readOf}
-use Rattle.listing.specs.Text.{codes}
+use Rattle.text.specs.Text.{codes}
 use Rattle.listing.specs.Disassemble.{textAt}
 use Rattle.listing.specs.Assemble.{assembleOf}
 

@@ -15,7 +15,7 @@ use Rattle.decode.specs.Fields.{opcodeOf, jumpBits}
 use Rattle.decode.specs.Decode.{instructionOf, decodeAt}
 use Rattle.decode.specs.Rows.{rowOf}
 use Rattle.refusal.specs.Report.{answered}
-use Rattle.listing.specs.Text.{codes}
+use Rattle.text.specs.Text.{codes}
 use Rattle.listing.specs.Disassemble.{Entry, entryAt, textAt}
 use Rattle.listing.specs.Cut.{cutAt}
 use Rattle.listing.specs.Assemble.{assembleOf}

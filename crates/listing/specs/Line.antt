@@ -30,7 +30,7 @@ use Rattle.decode.specs.Fields.{
   jumpTarget,
   jumpBits,
 }
-use Rattle.listing.specs.Text.{codes, digitOf, hexOf}
+use Rattle.text.specs.Text.{codes, digitOf, hexOf}
 
 -- the name at a place; where a group has none at a place, which another group has, "" stands in its list
 abbrev pub nameIn : List String → ℕ → List ℕ

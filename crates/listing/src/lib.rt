@@ -1,9 +1,7 @@
 // The disassembler (document 01's lister) and the one-line assembler: what line stands for which words.
 ghost use mathlib.Core.Path.{_≡_};
-ghost use Prim.Native.Nat.{_%_};
 ghost use Rattle.memory.specs.Bus.{busOn};
 ghost use Rattle.refusal.specs.Report.{answered};
-ghost use Rattle.listing.specs.Text.{digitOf};
 ghost use Rattle.listing.specs.Answer.{assemblyReported};
 ghost use Rattle.listing.specs.Disassemble.{disassembly, disassembleOf};
 ghost use Rattle.listing.specs.Assemble.{assembleOf};
@@ -60,13 +58,6 @@ pub fn disassemble(board: Board, mem: &[u16], at: u16, double: bool, text: &mut 
         words: entry.words,
         double: entry.double,
     }
-}
-
-// The low four bits as a hexadecimal digit, in upper case as every line has them.
-pub fn hex_digit(value: u16) -> u8
-    ensures { λ r. ⌜ r ≡ digitOf (value % 16) ⌝ }
-{
-    line::digit(value % 16)
 }
 
 // The first one, two or three words.

@@ -1,9 +1,9 @@
 // A line as its row and fields, and its bytes: a row's template with each small letter replaced by what it stands for.
 ghost use mathlib.Core.Path.{_≡_};
 ghost use mathlib.Core.List.{_++_};
-ghost use Prim.Native.Nat.{_<_, _≤_};
+ghost use Prim.Native.Nat.{_%_, _<_, _≤_};
 ghost use lib.ListN.{length, drop};
-ghost use Rattle.listing.specs.Text.{digitOf, sameText};
+ghost use Rattle.text.specs.Text.{sameText};
 ghost use Rattle.listing.specs.inner.Line.{lineWith, signOf, fieldOf, glyphOf, textOf};
 ghost use Rattle.listing.specs.inner.Rows.{templateOf};
 ghost use Rattle.listing.specs.inner.Table.{paddedOf, OfRegisters};
@@ -29,18 +29,6 @@ pub(crate) fn line_with(row: usize, s: u16, d: u16, operand: u16) -> Line
     }
 }
 
-// What stands between `9` and `A`.
-const GAP: u16 = 7;
-
-// A hexadecimal digit, upper case.
-pub(crate) fn digit(value: u16) -> u8
-    requires { ⌜ value < 16 ⌝ }
-    ensures { λ r. ⌜ r ≡ digitOf value ⌝ }
-{
-    let gap = if value < 10 { 0 } else { GAP };
-    (b'0' as u16 + value + gap) as u8
-}
-
 // A branch is forward where s, which has the opcode's bit 5, is 0.
 fn sign(s: u16) -> u8
     ensures { λ r. ⌜ r ≡ signOf s ⌝ }
@@ -49,17 +37,17 @@ fn sign(s: u16) -> u8
     if forward { b'+' } else { b'-' }
 }
 
-// The digit that a letter of a template stands for.
+// What a letter of a template stands for: the low four bits are its digit.
 fn field(line: Line, letter: u8) -> u16
-    ensures { λ r. ⌜ (r ≡ fieldOf line letter) × (r < 16) ⌝ }
+    ensures { λ r. ⌜ r % 16 ≡ fieldOf line letter ⌝ }
 {
     match letter {
-        b's' => line.s % 16,
-        b'd' => line.d % 16,
-        b'w' => line.operand / 4096 % 16,
-        b'x' => line.operand / 256 % 16,
-        b'y' => line.operand / 16 % 16,
-        _ => line.operand % 16,
+        b's' => line.s,
+        b'd' => line.d,
+        b'w' => line.operand / 4096,
+        b'x' => line.operand / 256,
+        b'y' => line.operand / 16,
+        _ => line.operand,
     }
 }
 
@@ -75,7 +63,7 @@ fn glyph(line: Line, symbol: u8) -> u8
     if signed {
         return sign(line.s);
     }
-    digit(field(line, symbol))
+    text::hex_digit(field(line, symbol))
 }
 
 // Where the digit of s stands in a line of two registers, which is "NAME Rs,Rd"; no other row's template has it there.
@@ -92,10 +80,10 @@ fn write_registers(text: &mut [u8], line: Line, template: &[u8; 14]) -> usize
     text[3] = template[3];
     text[4] = b' ';
     text[5] = b'R';
-    text[6] = digit(line.s % 16);
+    text[6] = text::hex_digit(line.s);
     text[7] = b',';
     text[8] = b'R';
-    text[9] = digit(line.d % 16);
+    text[9] = text::hex_digit(line.d);
     10
 }
 

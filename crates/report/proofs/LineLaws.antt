@@ -11,11 +11,11 @@ use Rattle.word.proofs.Choice.{cond-both, cond-true, cond-false}
 use Rattle.memory.specs.Bus.{Bus, readOf}
 use Rattle.records.specs.Records.{Record}
 use Rattle.image.specs.Format.{recordBytes}
-use Rattle.listing.specs.Text.{hexOf}
 use Rattle.listing.specs.Disassemble.{entryAt, textAt}
 use Rattle.listing.proofs.Bounds.{lines-bounded}
 use Rattle.meter.specs.Answer.{Longest, noWait, longest, Lowest, noOver, overAt, Named}
 use Rattle.meter.specs.Meter.{answerFrom, namedOf}
+use Rattle.text.specs.Text.{hexOf}
 use Rattle.report.specs.declared.Program.{Program}
 use Rattle.report.specs.declared.Program.the-variants.{ListImage, MeterImage}
 use Rattle.report.specs.Text.{space, lineText, linesText}

@@ -9,7 +9,7 @@ use Rattle.refusal.specs.Report.{Report, refused, answered, isRefused}
 use Rattle.memory.specs.Map.{allRam}
 use Rattle.memory.specs.Bus.{Bus, busOn}
 use Rattle.records.specs.Records.{Record}
-use Rattle.listing.specs.Text.{codes, hexOf}
+use Rattle.text.specs.Text.{codes, hexOf}
 use Rattle.report.specs.declared.Program.{Program}
 use Rattle.report.specs.declared.Program.the-variants.{ListImage, MeterImage}
 use Rattle.report.specs.declared.Printed.{Printed}

@@ -3,9 +3,9 @@
 use Prim.Native.Nat.{ℕ, _+_, _-_}
 use mathlib.Core.List.{List, [], _∷_, _++_}
 use Rattle.memory.specs.Bus.{Bus}
-use Rattle.listing.specs.Text.{codes, hexOf}
 use Rattle.meter.specs.Answer.{Longest, noWait, longest, Lowest, noOver, overAt, Named}
 use Rattle.meter.specs.Meter.{answerFrom, namedOf}
+use Rattle.text.specs.Text.{codes, hexOf}
 use Rattle.report.specs.Text.{space}
 
 -- "at limit 0"

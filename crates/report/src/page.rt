@@ -4,7 +4,7 @@ ghost use mathlib.Core.List.{[], _∷_, _++_};
 ghost use Prim.Native.Nat.{_+_, _<_, _≤_};
 ghost use lib.ListN.{length};
 ghost use Rattle.refusal.specs.Refusals.{refusalNumber};
-ghost use Rattle.listing.specs.Text.{hexOf};
+ghost use Rattle.text.specs.Text.{hexOf};
 ghost use Rattle.report.specs.Text.{space, decimalText, lineText};
 ghost use Rattle.report.specs.Program.{refusedLine};
 ghost use Rattle.report.specs.inner.Page.{Puts};
@@ -45,10 +45,10 @@ pub(crate) fn put_hex(room: &mut [u8], at: usize, word: u16) -> usize
     requires { ⌜ at + 4 ≤ length (now room) ⌝ }
     ensures { λ r. ⌜ Puts (now (room .entry)) at (hexOf word) (now (room .exit)) r × (r ≡ at + 4) ⌝ }
 {
-    let second = put_byte(room, at, listing::hex_digit(word / 4096));
-    let third = put_byte(room, second, listing::hex_digit(word / 256));
-    let fourth = put_byte(room, third, listing::hex_digit(word / 16));
-    put_byte(room, fourth, listing::hex_digit(word))
+    let second = put_byte(room, at, text::hex_digit(word / 4096));
+    let third = put_byte(room, second, text::hex_digit(word / 256));
+    let fourth = put_byte(room, third, text::hex_digit(word / 16));
+    put_byte(room, fourth, text::hex_digit(word))
 }
 
 // A number and the space behind it.

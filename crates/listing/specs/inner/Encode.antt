@@ -11,13 +11,10 @@ use Rattle.decode.specs.declared.Decoded.{Decoded}
 use Rattle.decode.specs.declared.Decoded.the-variants.{Unspecified, Known}
 use Rattle.decode.specs.Decode.{decodeWords}
 use Rattle.decode.specs.Rows.{rowOf}
+use Rattle.text.specs.Text.{digitValue}
 use Rattle.listing.specs.declared.line.Line.{Line}
 use Rattle.listing.specs.inner.Rows.{firstLetter, templateOf, baseOf}
 use Rattle.listing.specs.inner.Line.{lineWith}
-
--- the value of a digit
-unfoldable pub valueOf : ℕ → ℕ
-valueOf c = cond (ltb c (code "A")) (c % 16) ((c + 9) % 16)
 
 -- the field s of a branch: its bit 5 where the sign is "-"
 abbrev pub signValue : ℕ → ℕ
@@ -27,10 +24,10 @@ signValue c = cond (eqb c (code "-")) 4 0
 unfoldable pub withSymbol : Line → ℕ → ℕ → Line
 withSymbol l h c =
     cond (ltb h firstLetter) l
-    (cond (eqb h (code "s")) (lineWith (l .row) (valueOf c) (l .d) (l .operand))
-    (cond (eqb h (code "d")) (lineWith (l .row) (l .s) (valueOf c) (l .operand))
+    (cond (eqb h (code "s")) (lineWith (l .row) (digitValue c) (l .d) (l .operand))
+    (cond (eqb h (code "d")) (lineWith (l .row) (l .s) (digitValue c) (l .operand))
     (cond (eqb h (code "g")) (lineWith (l .row) (signValue c) (l .d) (l .operand))
-    (lineWith (l .row) (l .s) (l .d) (l .operand % 4096 * 16 + valueOf c)))))
+    (lineWith (l .row) (l .s) (l .d) (l .operand % 4096 * 16 + digitValue c)))))
 
 abbrev pub readIn : List ℕ → List ℕ → Line → Line
 readIn [] text l = l

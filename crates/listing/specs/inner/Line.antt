@@ -4,8 +4,8 @@ use Prim.Native.Char.{code}
 use mathlib.Core.Bool.{cond}
 use mathlib.Core.List.{List, map}
 use lib.Dec.{eqb, ltb}
+use Rattle.text.specs.Text.{digitOf}
 use Rattle.listing.specs.declared.line.Line.{Line}
-use Rattle.listing.specs.Text.{digitOf}
 use Rattle.listing.specs.inner.Rows.{firstLetter, templateOf}
 
 abbrev pub lineWith : ℕ → ℕ → ℕ → ℕ → Line

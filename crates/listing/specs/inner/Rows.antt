@@ -4,7 +4,7 @@ use Prim.Native.Char.{code}
 use Prim.Native.String.{String}
 use mathlib.Core.List.{List, [], _∷_}
 use lib.ListN.{getD}
-use Rattle.listing.specs.Text.{codes}
+use Rattle.text.specs.Text.{codes}
 
 -- A row's line as a template, and its opcode where s and d are 0. In a template a small letter stands for what a line fills in: s and d for a
 -- register's digit or an input's, w x y z for the operand's four digits, g for the sign of a branch. All else is printed as it is.

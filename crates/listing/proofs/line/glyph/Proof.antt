@@ -14,7 +14,7 @@ returns-2 c = rw (c .sign .ensures, c .before .before .if1 .left, c .before .if2
 
 returns-3 : tie.Need-returns-3
 unfolding glyphOf
-returns-3 c = rw (c .digit .ensures, c .before .field .ensures .0, c .before .before .before .if1 .left, c .before .before .if2 .left)
+returns-3 c = rw (c .hex-digit .ensures, c .before .field .ensures, c .before .before .before .if1 .left, c .before .before .if2 .left)
 
 pub glyph-spec : {M : Type 1} → statement M
 glyph-spec =

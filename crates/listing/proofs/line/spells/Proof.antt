@@ -5,7 +5,7 @@ use mathlib.Core.Path.{_≡_, refl, sym, ap, _∙_}
 use native.Mathlib.Omega.{arith}
 use lib.ListN.{length, getD, drop}
 use borrow.Author.Tests.{ne-eqb, eq-eqb}
-use Rattle.listing.specs.Text.{sameText}
+use Rattle.text.specs.Text.{sameText}
 use Rattle.listing.specs.inner.Line.{glyphOf, textOf}
 use Rattle.listing.proofs.Table.{template-most, symbol-at}
 use Rattle.listing.proofs.Lines.{text-length, text-at, same-step, same-end}

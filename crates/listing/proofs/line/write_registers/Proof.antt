@@ -9,9 +9,9 @@ use Rattle.listing.proofs.line.write_registers.Tie as tie
 
 returns : tie.Need-returns
 returns c =
-    let a = c .before .before .before .before .before .before .before .before .before .args in
-    let p = c .before .before .before .before .before .before .before .before .before .pre in
-    rw (registers-text (a .line) (p .1) (p .2), c .digit2 .ensures, c .before .before .digit .ensures, p .0)
+    let a = c .before .before .before .before .before .before .before .args in
+    let p = c .before .before .before .before .before .before .before .pre in
+    rw (registers-text (a .line) (p .1) (p .2), c .hex-digit2 .ensures, c .before .hex-digit .ensures, p .0)
     (refl, first-ten (a .text .now) (registersText (a .line)) refl (omega arith))
 
 pub write-registers-spec : {M : Type 1} → statement M

@@ -1,6 +1,6 @@
 -- Four digits, one behind the other.
 use borrow.Author.Needs.{needs}
-use Rattle.listing.specs.Text.{hexOf}
+use Rattle.text.specs.Text.{hexOf}
 use Rattle.report.proofs.PageLaws.{puts-then}
 use Rattle.report.proofs.page.put_hex.Statement.{statement}
 use Rattle.report.proofs.page.put_hex.Tie as tie
