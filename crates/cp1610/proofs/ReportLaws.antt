@@ -55,9 +55,10 @@ use Rattle.text.specs.Text.{sameText}
 use Rattle.listing.specs.Cut.{cutWords, cutAt}
 use Rattle.listing.specs.Assemble.{heldTo, orElse, anyBelow, assembleOf}
 use Rattle.listing.proofs.Bounds.{lines-bounded}
+use Rattle.records.specs.Loading.{Loading, refuseLoad}
 use Rattle.image.specs.Format.{recordLimit, idHead}
 use Rattle.image.specs.Read.{headOf}
-use Rattle.image.specs.Load.{Loading, refuseLoad, loadOf}
+use Rattle.image.specs.Load.{loadOf}
 use Rattle.image.specs.Write.{Writing, refuseWrite, writeOf}
 use Rattle.image.proofs.OutcomeLaws.{load-refuses-or-answers, write-refuses-or-answers}
 use Rattle.cp1610.specs.Answers.{isRefusal}

@@ -3,7 +3,8 @@ use Prim.Native.Nat.{ℕ}
 use mathlib.Core.Bool.{false}
 use mathlib.Core.List.{List, [], _∷_}
 use Rattle.refusal.specs.Report.{Report}
-use Rattle.image.specs.Load.{Loading, loadOf}
+use Rattle.records.specs.Loading.{Loading}
+use Rattle.image.specs.Load.{loadOf}
 use Rattle.image.specs.Write.{Writing, writeOf}
 use Rattle.cp1610.specs.Answers.{successWord}
 use Rattle.cp1610.specs.Called.{items, called, CallRule}

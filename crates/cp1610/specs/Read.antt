@@ -16,7 +16,8 @@ use Rattle.meter.specs.Meter.{waitOf, regionOf}
 use Rattle.listing.specs.Answer.{ListedLine}
 use Rattle.listing.specs.Disassemble.{Disassembly, disassembleOf}
 use Rattle.listing.specs.Assemble.{assembleOf}
-use Rattle.image.specs.Load.{Loading, loadOf}
+use Rattle.records.specs.Loading.{Loading}
+use Rattle.image.specs.Load.{loadOf}
 use Rattle.image.specs.Write.{Writing, writeOf}
 use Rattle.cp1610.specs.Words.{stateLength, isSet, unpacked, linesOf}
 use Rattle.cp1610.specs.MapWords.{isMap, onMap}

@@ -16,10 +16,10 @@ ghost use Rattle.cp1610.specs.Calls.{
   cp1610-load,
   cp1610-write,
 };
-use image::LoadAnswer;
 use image::WriteAnswer;
 use listing::Listing;
 use meter::RegionAnswer;
+use records::LoadAnswer;
 use run::RunAnswer;
 
 mod answers;

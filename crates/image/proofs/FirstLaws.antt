@@ -10,14 +10,14 @@ use Rattle.refusal.specs.declared.Refusal.the-variants.{MemoryTooLong, WrongBoa
 use Rattle.refusal.specs.Report.{answered}
 use Rattle.refusal.proofs.ReportLaws.{no-answer}
 use Rattle.memory.specs.Memory.{tooLong}
-use Rattle.image.specs.declared.LoadAnswer.{LoadAnswer}
-use Rattle.image.specs.declared.LoadAnswer.the-variants.{Loaded}
+use Rattle.records.specs.declared.LoadAnswer.{LoadAnswer}
+use Rattle.records.specs.declared.LoadAnswer.the-variants.{Loaded}
 use Rattle.records.specs.Records.{Record}
+use Rattle.records.specs.Loading.{loadReported, Loading, refuseLoad, loaded}
 use Rattle.image.specs.Format.{recordLimit, headBytes, recordBytes, bodyBytes, recordAt, idHead, headSum}
 use Rattle.image.specs.Read.{Opening, opened, unopened, headOf, Part, recordPart, tailPart, offencePart, partOf}
 use Rattle.image.specs.Read.{recordFirst, noneFirst, firstOf, Body, whole, broken, withRecord, follow, bodyOf, WholeFile}
-use Rattle.image.specs.Answer.{loadReported}
-use Rattle.image.specs.Load.{Loading, refuseLoad, isFor, sumAgrees, sumTested, boardTested, loadWith, loadOf, loaded}
+use Rattle.image.specs.Load.{isFor, sumAgrees, sumTested, boardTested, loadWith, loadOf}
 use Rattle.image.proofs.ReadLaws.{Sound, head-shown, part-sound, body-law}
 
 -- what a loading shows of the file where it is answered

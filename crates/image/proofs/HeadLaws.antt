@@ -5,7 +5,7 @@ use mathlib.Core.List.{List, _++_}
 use native.Mathlib.Omega.{arith}
 use lib.ListN.{length, set, length-set}
 use borrow.Author.Tests.{le-ltb}
-use Rattle.image.specs.Bytes.{wordAt, bytesOf}
+use Rattle.bigendian.specs.Numbers.{wordAt, bytesOf}
 use Rattle.image.specs.Format.{boardAt, headBytes, idHead, headWords, headLength}
 use Rattle.image.specs.Read.{headOf}
 use Rattle.image.specs.Laws.{ReadsBack, ReadsHeadAlone, OwnHead}

@@ -1,4 +1,4 @@
--- Laws of bytes and words, of reading, and of the loops.
+-- Laws of bytes and sums, of reading, and of the loops.
 pub mod ByteLaws
 pub mod ReadLaws
 pub mod PassLaws

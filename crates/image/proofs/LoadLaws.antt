@@ -1,4 +1,4 @@
--- What the loader does with the first pass's answer, and that no two answers are reported alike.
+-- What the loader does with the first pass's answer.
 use Prim.Native.Nat.{ℕ, _+_, _-_, _%_}
 use mathlib.Core.Path.{_≡_, refl, sym, ap, _∙_}
 use mathlib.Core.Bool.{Bool, true, false, cond}
@@ -9,26 +9,19 @@ use lib.ListN.{length, take}
 use Rattle.refusal.specs.declared.Refusal.{Refusal}
 use Rattle.refusal.specs.declared.Refusal.the-variants.{MemoryTooLong, WrongBoard, SumDiffers}
 use Rattle.refusal.specs.Report.{answered}
-use Rattle.refusal.proofs.ReportLaws.{no-answer, same-answer, same-refusal}
 use Rattle.memory.specs.Memory.{tooLong}
 use Rattle.word.specs.Word.{wrapAdd}
-use Rattle.image.specs.declared.LoadAnswer.the-variants.{Refused, Loaded}
+use Rattle.records.specs.declared.LoadAnswer.the-variants.{Refused, Loaded}
+use Rattle.records.specs.Loading.{Loading, refuseLoad, loaded}
 use Rattle.image.specs.declared.parse.Head.{Head}
 use Rattle.image.specs.declared.check.Checked.the-variants.{Whole, Broken}
 use Rattle.image.specs.Format.{recordLimit, headBytes, bodyBytes, recordsSum, checksum, idHead, headSum}
 use Rattle.image.specs.Read.{Opening, opened, headOf, Body, whole, broken, bodyOf}
-use Rattle.image.specs.Answer.{LoadAnswersApart}
-use Rattle.image.specs.Load.{Loading, refuseLoad, isFor, sumTested, boardTested, loadWith, loadOf, loaded}
+use Rattle.image.specs.Load.{isFor, sumTested, boardTested, loadWith, loadOf}
 use Rattle.image.specs.inner.Pass.{headRead, summary, isWhole, placedBody}
 use Rattle.image.proofs.PassLaws.{mod-right}
-use Rattle.image.proofs.ByteLaws.{rest}
 use Rattle.word.proofs.Choice.{cond-true, cond-false}
-
-pub load-answers-apart : LoadAnswersApart
-load-answers-apart (Refused a) (Refused b) e = ap Refused (same-refusal a b e)
-load-answers-apart (Refused a) (Loaded b) e = no-answer e
-load-answers-apart (Loaded a) (Refused b) e = no-answer (sym e)
-load-answers-apart (Loaded a) (Loaded b) e = ap Loaded (same-answer e)
+use Rattle.word.proofs.SetsLaws.{rest}
 
 -- the sum test, as the code makes it and as the definition has it
 tested : (m : List ℕ) (head n s stated : ℕ) (b : Body) (t : Bool) → Whole n s stated ≡ summary 0 0 b → eqb (wrapAdd head s) stated ≡ t

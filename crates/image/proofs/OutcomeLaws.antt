@@ -9,18 +9,19 @@ use borrow.Author.Tests.{ltb-false}
 use lib.Dec.{ltb}
 use lib.ListN.{length, drop, length-drop}
 use Rattle.refusal.specs.declared.Refusal.{Refusal}
-use Rattle.refusal.specs.declared.Refusal.the-variants.{MemoryTooLong, FirstAboveLast, PastMemory, ImageRoomTooSmall, WrongBoard}
-use Rattle.refusal.specs.declared.Refusal.the-variants.{SumDiffers}
+use Rattle.refusal.specs.declared.Refusal.the-variants.{MemoryTooLong, RoomTooSmall, WrongBoard, SumDiffers}
 use Rattle.refusal.specs.Report.{answered}
 use Rattle.memory.specs.Memory.{tooLong}
+use Rattle.memory.proofs.BusLaws.{unless-both}
 use Rattle.word.proofs.Choice.{cond-both, cond-either}
-use Rattle.records.specs.Records.{Record, isWithin}
-use Rattle.records.specs.Cut.{spanOf}
+use Rattle.records.specs.Records.{Record}
+use Rattle.records.specs.Loading.{Loading, RefusesOrLoads}
+use Rattle.records.specs.Region.{regionAdmission}
 use Rattle.records.proofs.PlacedLaws.{placed-laws}
 use Rattle.image.specs.Format.{headLength, headSum}
 use Rattle.image.specs.Read.{Opening, opened, unopened, Part, recordPart, tailPart, offencePart, partOf, Body, whole}
 use Rattle.image.specs.Read.{broken, withRecord, follow, bodyFrom, bodyOf}
-use Rattle.image.specs.Load.{Loading, refuseLoad, isFor, sumAgrees, sumTested, boardTested, loadWith}
+use Rattle.image.specs.Load.{isFor, sumAgrees, sumTested, boardTested, loadWith}
 use Rattle.image.specs.Write.{Writing, refuseWrite, regionImage, writing, writeWith}
 use Rattle.image.specs.Laws.{LoadRefusesOrAnswers, LoadKeepsLength, WriteRefusesOrAnswers}
 use Rattle.image.proofs.ReadLaws.{read-records-fit}
@@ -47,23 +48,20 @@ body-count : (limit len : ℕ) (bytes : List ℕ) → countOf (bodyOf limit len 
 unfolding bodyOf
 body-count limit len bytes = from-count (length bytes) limit len bytes
 
-abbrev LoadEnds : List ℕ → List ℕ → Loading → Type 0
-LoadEnds m file l = ((r : Refusal) × (l ≡ refuseLoad m r)) ⊎ ((n : ℕ) × ((l .answer ≡ answered n) × (n ≤ length file)))
-
 pub load-refuses-or-answers : LoadRefusesOrAnswers
 unfolding loadWith
 load-refuses-or-answers opening limit board m file =
-    cond-both (LoadEnds m file) (tooLong m) (inl (MemoryTooLong, refl)) (by-head (opening file))
+    cond-both (RefusesOrLoads m (length file)) (tooLong m) (inl (MemoryTooLong, refl)) (by-head (opening file))
   where
-    by-body : (head : ℕ) (b : Body) → countOf b ≤ length file → LoadEnds m file (sumTested m head b)
+    by-body : (head : ℕ) (b : Body) → countOf b ≤ length file → RefusesOrLoads m (length file) (sumTested m head b)
     by-body head (whole rs stated) h =
-        cond-both (LoadEnds m file) (sumAgrees head rs stated) (inr (length rs, (refl, h))) (inl (SumDiffers, refl))
+        cond-both (RefusesOrLoads m (length file)) (sumAgrees head rs stated) (inr (length rs, (refl, h))) (inl (SumDiffers, refl))
     by-body head (broken e) h = inl (e, refl)
 
-    by-head : (o : Opening) → LoadEnds m file (boardTested limit board m file o)
+    by-head : (o : Opening) → RefusesOrLoads m (length file) (boardTested limit board m file o)
     by-head (opened head) =
         let rest = drop (headLength head) file in
-        cond-both (LoadEnds m file) (isFor head board)
+        cond-both (RefusesOrLoads m (length file)) (isFor head board)
         (by-body (headSum head) (bodyOf limit (length m) rest)
         (omega (arith, length-drop (headLength head) file, body-count limit (length m) rest)))
         (inl (WrongBoard, refl))
@@ -94,9 +92,6 @@ pub write-refuses-or-answers : WriteRefusesOrAnswers
 unfolding writeWith writing
 write-refuses-or-answers head limit m first last room =
     let file = regionImage head limit m first last in
-    cond-both (WriteEnds room) (tooLong m) (inl (MemoryTooLong, refl))
-    (cond-both (WriteEnds room) (ltb last first) (inl (FirstAboveLast, refl))
-    (cond-both (WriteEnds room) (isWithin (length m) first (spanOf first last))
-    (cond-either (WriteEnds room) (ltb (length room) (length file)) (λ e. inl (ImageRoomTooSmall, refl))
+    unless-both (WriteEnds room) (regionAdmission m first last) (λ r. inl (r, refl))
+    (cond-either (WriteEnds room) (ltb (length room) (length file)) (λ e. inl (RoomTooSmall, refl))
     (λ e. inr (length file, (refl, ltb-false (length room) (length file) e))))
-    (inl (PastMemory, refl))))

@@ -2,26 +2,25 @@
 use Prim.Native.Nat.{ℕ, suc, _+_, _-_, _*_, _%_, _<_, _≤_}
 use mathlib.Core.Path.{_≡_, refl, sym, ap, _∙_}
 use mathlib.Core.Bool.{true, false}
-use mathlib.Core.List.{List, _++_, map, map-append, append-nil, append-assoc}
+use mathlib.Core.List.{List}
 use native.Mathlib.Omega.{arith}
-use native.Mathlib.Numerals.{add-one}
-use borrow.Rule.Slice.PartMut.{midOf, postOf, putMid, mid-len, post-is}
 use lib.Dec.{lit<}
-use lib.ListN.{length, getD, take, drop, set, length-drop, length-set, drop-of-length-le}
-use lib.Seq.{take-suc, take-suc-set, take-length, length-take-le, take-all, take-at, drop-at, drop-cons, drop-drop, drop-set-lt}
-use lib.Seq.{append-snoc}
+use lib.ListN.{length, getD, take, drop, length-drop}
+use lib.Seq.{take-length, take-at, drop-drop, sets, sets-eq}
 use Rattle.refusal.specs.declared.Refusal.{Refusal}
 use Rattle.image.specs.declared.check.Checked.the-variants.{Whole, Broken}
 use Rattle.word.specs.Word.{wrapAdd}
 use Rattle.word.proofs.WordLaws.{add-low}
+use Rattle.word.proofs.SetsLaws.{rest}
+use Rattle.bigendian.specs.Numbers.{wordsOf, allWords}
+use Rattle.bigendian.proofs.NumberLaws.{words-length, words-front}
 use Rattle.records.specs.Records.{Record, recordOver, overwrite}
-use Rattle.records.proofs.OverLaws.{overwrite-length}
-use Rattle.image.specs.Bytes.{wordAt, wordsOf}
+use Rattle.records.proofs.OverLaws.{overwrite-sets, overwrite-length}
 use Rattle.image.specs.Format.{recordHeadBytes, recordBytes, recordAt, total, recordSum, recordsSum}
 use Rattle.image.specs.Read.{Part, recordPart, tailPart, offencePart, partOf, Body, whole, broken, withRecord, follow}
 use Rattle.image.specs.Read.{bodyOf}
 use Rattle.image.specs.inner.Pass.{summary, isWhole, placedBody}
-use Rattle.image.proofs.ByteLaws.{rest, words-at, words-length, total-step}
+use Rattle.image.proofs.ByteLaws.{total-step}
 use Rattle.image.proofs.ReadLaws.{Sound, part-sound, body-law}
 
 -- a sum modulo 65,536 may be taken modulo 65,536 on the way
@@ -58,66 +57,29 @@ pub record-sums : (a : ℕ) (ws : List ℕ) {x y r : ℕ} → x ≡ wrapAdd a (l
 unfolding wrapAdd
 record-sums a ws e f g = rw (g, e, f) (mod-left (a + length ws) (total ws % 65536) ∙ mod-right (a + length ws) (total ws))
 
--- n words are read from bytes in two loops. After i turns of the first, f makes the first i words of what stands in d.
-pub record Copying (f : ℕ → ℕ) (n : ℕ) (bytes d : List ℕ) (i : ℕ) : Type 0 where
-  pub size : length d ≡ n
-  pub within : i ≤ n
-  pub copied : map f (take i d) ≡ take i (wordsOf n bytes)
+-- The c words behind a record's head, read from the bytes up to the record's end.
+module _ (bytes : List ℕ) (c : ℕ) (whole : recordBytes c ≤ length bytes) where
+  abbrev part : List ℕ
+  part = take (recordBytes c - recordHeadBytes) (drop recordHeadBytes bytes)
 
--- After i turns of the second, the first i words stand in d, and f makes the others of what stands behind them.
-pub record Exchanging (f : ℕ → ℕ) (n : ℕ) (bytes d : List ℕ) (i : ℕ) : Type 0 where
-  pub size : length d ≡ n
-  pub within : i ≤ n
-  pub exchanged : take i d ++ map f (drop i d) ≡ wordsOf n bytes
+  abbrev words : List ℕ
+  words = wordsOf c (drop recordHeadBytes bytes)
 
-module _ {f : ℕ → ℕ} {n : ℕ} {bytes d : List ℕ} {i : ℕ} where
-  pub copying-on : {v : ℕ} → Copying f n bytes d i → i < length d → f v ≡ wordAt bytes (i * 2) → Copying f n bytes (set d i v) (i + 1)
-  copying-on {v} k h e =
-      let z = k .size in
-      let l : i < length (wordsOf n bytes) = omega (arith, words-length n bytes) in
-      record {
-        size = length-set d i v ∙ z;
-        within = omega arith;
-        copied = rw (add-one, take-suc-set d i v, map-append, take-suc (wordsOf n bytes) i 0, k .copied, words-at n bytes i (omega arith), e);
-      }
-
-  pub copying-end : Copying f n bytes d i → length d ≤ i → Exchanging f (length d) bytes d 0
-  copying-end k h =
-      let z = k .size in
-      let l : length (wordsOf n bytes) ≤ i = omega (arith, words-length n bytes) in
-      record {
-        size = refl;
-        within = omega arith;
-        exchanged = rw z (rw (take-all i d h, take-all i (wordsOf n bytes) l) at (k .copied));
-      }
-
-  pub exchanging-on : {v : ℕ} → Exchanging f n bytes d i → i < length d → v ≡ f (getD d i 0) → Exchanging f n bytes (set d i v) (i + 1)
-  exchanging-on {v} k h e =
-      record {
-        size = length-set d i v ∙ k .size;
-        within = omega (arith, k .size);
-        exchanged = rw (add-one, take-suc-set d i v, drop-set-lt (suc i) d i v (omega arith), append-snoc, e) (rw (drop-cons d i 0) at (k .exchanged));
-      }
-
-  pub exchanging-end : Exchanging f n bytes d i → length d ≤ i → d ≡ wordsOf n bytes
-  exchanging-end k h = rw (take-all i d h, drop-of-length-le d h, append-nil) at (k .exchanged)
-
--- The n words behind a record's head are read into the part of d from a to e, which comes back as ys.
-module _ (d : List ℕ) (a e n : ℕ) (bytes : List ℕ) {ys : List ℕ} (span : e ≡ a + n) (room : e ≤ length d)
-    (read : ys ≡ wordsOf (length (midOf a (e - a) d)) (take (length bytes - recordHeadBytes) (drop recordHeadBytes bytes))) where
-  words-read : ys ≡ wordsOf n (drop recordHeadBytes bytes)
+  words-read : allWords part ≡ words
   words-read =
-      let l : length (midOf a (e - a) d) ≡ n = omega (arith, mid-len a e d room) in
-      read ∙ rw (l, rest bytes recordHeadBytes)
+      let e : recordBytes c - recordHeadBytes ≡ c * 2 = omega arith in
+      rw e (words-front c (drop recordHeadBytes bytes) (omega (arith, length-drop recordHeadBytes bytes)))
 
-  pub words-stored : putMid a (e - a) d ys ≡ overwrite d a (wordsOf n (drop recordHeadBytes bytes))
-  unfolding overwrite
-  words-stored = rw (words-read, post-is a e d (omega arith), words-length n (drop recordHeadBytes bytes), append-assoc, span)
+  pub words-stored : (m : List ℕ) (a : ℕ) → a + c ≤ length m → sets m a (allWords part) ≡ overwrite m a words
+  words-stored m a h =
+      let l = words-length c (drop recordHeadBytes bytes) in
+      rw words-read (sym (overwrite-sets m a words (omega arith)))
 
-  pub words-kept : midOf a (e - a) (putMid a (e - a) d ys) ≡ wordsOf n (drop recordHeadBytes bytes)
-  words-kept =
-      let l : length ys ≡ e - a = ap length words-read ∙ words-length n (drop recordHeadBytes bytes) ∙ omega arith in
-      rw (drop-at (take a d) (ys ++ postOf a (e - a) d) a (length-take-le a d (omega arith)), take-at ys (postOf a (e - a) d) (e - a) l) words-read
+  -- .. and they stand at the front of the scratch room
+  pub words-kept : (d : List ℕ) → c ≤ length d → take c (sets d 0 (allWords part)) ≡ words
+  words-kept d h =
+      let l = words-length c (drop recordHeadBytes bytes) in
+      rw (words-read, sets-eq words d 0 (omega arith)) (take-at words (drop (0 + length words) d) c l)
 
 -- One record more of a body: what the first pass makes of it.
 summary-on : (n sum next : ℕ) (r : Record) (b : Body) → next ≡ wrapAdd sum (recordSum r % 65536) → summary (n + 1) next b ≡ summary n sum (withRecord r b)

@@ -8,15 +8,15 @@ use lib.ListN.{length, drop, length-drop}
 use borrow.Author.Tests.{eqb-false, ltb-false, leb-true, le-leb}
 use Rattle.refusal.specs.declared.Refusal.{Refusal}
 use Rattle.refusal.specs.declared.Refusal.the-variants.{MalformedImage, PastMemory}
+use Rattle.bigendian.specs.Numbers.{wordAt}
+use Rattle.bigendian.proofs.NumberLaws.{words-length}
 use Rattle.records.specs.Records.{Record, isWithin}
-use Rattle.image.specs.Bytes.{wordAt}
 use Rattle.image.specs.Format.{idMark, atMark, okMark, boardAt, headBytes, addressAt, countAt, recordHeadBytes, sumAt}
 use Rattle.image.specs.Format.{tailBytes, recordBytes, recordAt, ImageHead, idHead}
 use Rattle.image.specs.Read.{Opening, opened, unopened, headOf, Part, recordPart, tailPart, offencePart, placeOf, recordOf}
 use Rattle.image.specs.Read.{tailOf, partOf, Body, whole, broken, withRecord, follow, bodyFrom, bodyOf}
 use Rattle.image.specs.Laws.{BodyEquation, ReadRecordsFit}
 use Rattle.word.proofs.Choice.{cond-both, cond-either, cond-true}
-use Rattle.image.proofs.ByteLaws.{words-length}
 
 -- what a record's part shows
 pub record Sound (limit len : ℕ) (bytes : List ℕ) (a c : ℕ) : Type 0 where
@@ -115,6 +115,10 @@ body-law limit len bytes =
     let d = length-drop (recordBytes c) bytes in
     body-more (length bytes) (length (drop (recordBytes c) bytes)) limit len (drop (recordBytes c) bytes) (omega arith) (omega arith))
 
+-- a record has as many words as its count says
+pub record-length : (address count : ℕ) (bytes : List ℕ) → length (recordAt address count bytes .words) ≡ count
+record-length address count bytes = words-length count (drop recordHeadBytes bytes)
+
 -- A body with a record has it at its front.
 pub record Front (limit len : ℕ) (bytes : List ℕ) (r : Record) (rs : List Record) (stated : ℕ) : Type 0 where
   pub address : ℕ
@@ -142,7 +146,7 @@ module _ (limit len : ℕ) (bytes : List ℕ) (r : Record) (rs : List Record) (s
 
   -- the words of the record at the front
   pub front-count : (f : Front limit len bytes r rs stated) → length (r .words) ≡ f .count
-  front-count f = ap (λ (q : Record). length (q .words)) (sym (f .is)) ∙ words-length (f .count) (drop recordHeadBytes bytes)
+  front-count f = ap (λ (q : Record). length (q .words)) (sym (f .is)) ∙ record-length (f .address) (f .count) bytes
 
 pub read-records-fit : ReadRecordsFit
 read-records-fit limit len bytes [] stated e = (tt, refl)

@@ -1,24 +1,17 @@
--- What the loader and the writer report, in document 01's numbers: the refusal's number, or the one number that is asked for. And what
--- stands at the front of some bytes of a file.
+-- What the writer reports, in document 01's numbers: the refusal's number, or the one number that is asked for. And what stands at the
+-- front of some bytes of a file.
 use Prim.Native.Nat.{ℕ}
 use Rattle.refusal.specs.Refusals.{refusalNumber}
 use Rattle.refusal.specs.Report.{Report, refused, answered, OneToOne}
-use Rattle.image.specs.declared.LoadAnswer.{LoadAnswer}
-use Rattle.image.specs.declared.LoadAnswer.the-variants.{Refused as LoadRefused, Loaded}
 use Rattle.image.specs.declared.WriteAnswer.{WriteAnswer}
-use Rattle.image.specs.declared.WriteAnswer.the-variants.{Refused as WriteRefused, Written}
+use Rattle.image.specs.declared.WriteAnswer.the-variants.{Refused, Written}
 use Rattle.image.specs.declared.FirstRecord.{FirstRecord}
 use Rattle.image.specs.declared.FirstRecord.the-variants.{Record as FoundRecord, NoRecord}
 use Rattle.image.specs.Read.{First, recordFirst, noneFirst}
 
--- "The loader answers the number of records."
-abbrev pub loadReported : LoadAnswer → Report ℕ
-loadReported (LoadRefused r) = refused (refusalNumber r)
-loadReported (Loaded records) = answered records
-
 -- The writer "answers the length".
 abbrev pub writeReported : WriteAnswer → Report ℕ
-writeReported (WriteRefused r) = refused (refusalNumber r)
+writeReported (Refused r) = refused (refusalNumber r)
 writeReported (Written bytes) = answered bytes
 
 -- a record's address and count, or that there is none
@@ -27,8 +20,5 @@ firstReported (FoundRecord address count) = recordFirst address count
 firstReported NoRecord = noneFirst
 
 -- no two answers are reported alike
-abbrev pub LoadAnswersApart : Type 0
-LoadAnswersApart = OneToOne loadReported
-
 abbrev pub WriteAnswersApart : Type 0
 WriteAnswersApart = OneToOne writeReported

@@ -2,8 +2,8 @@
 use Prim.Native.Nat.{ℕ, _+_, _*_, _%_}
 use mathlib.Core.List.{List, [], _∷_, _++_}
 use lib.ListN.{length, drop}
+use Rattle.bigendian.specs.Numbers.{wordsOf, bytesOf}
 use Rattle.records.specs.Records.{Record, recordOver}
-use Rattle.image.specs.Bytes.{wordsOf, bytesOf}
 
 -- "count 1 to 1,024". Each definition of a file takes the limit as an argument; this is the one of the loader and the writer.
 abbrev pub recordLimit : ℕ

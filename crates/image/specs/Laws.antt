@@ -8,15 +8,16 @@ use mathlib.Core.List.{List, [], _∷_, _++_}
 use lib.ListN.{length, getD, take, drop, set}
 use Rattle.refusal.specs.declared.Refusal.{Refusal}
 use Rattle.refusal.specs.Report.{refused, answered}
-use Rattle.memory.specs.Memory.{peekOf}
+use Rattle.bigendian.specs.Numbers.{bytesOf}
 use Rattle.records.specs.Records.{Record, allWithin}
-use Rattle.records.specs.Cut.{spanOf, recordCount}
+use Rattle.records.specs.Loading.{RefusesOrLoads, PutBack, laying}
+use Rattle.records.specs.Region.{spanOf, wordsBetween}
+use Rattle.records.specs.Cut.{recordCount}
 use Rattle.records.specs.Laws.{Sized}
-use Rattle.image.specs.Bytes.{bytesOf}
 use Rattle.image.specs.Format.{recordLimit, headBytes, recordHeadBytes, recordBytes}
 use Rattle.image.specs.Format.{ImageHead, idHead, headWords, headLength, headSum}
 use Rattle.image.specs.Read.{Opening, opened, headOf, partOf, Body, whole, broken, follow, bodyOf}
-use Rattle.image.specs.Load.{Loading, refuseLoad, isFor, sumAgrees, loadWith}
+use Rattle.image.specs.Load.{isFor, sumAgrees, loadWith}
 use Rattle.image.specs.Write.{refuseWrite, writeWith}
 
 -- the body by its own rule, without a count: its first part decides, and a record is followed by the body of the bytes behind it
@@ -57,13 +58,28 @@ pub record WrittenFile (head : ImageHead) (cut : ℕ) (m : List ℕ) (first last
   pub answer : writeWith head cut m first last room .answer ≡ answered (length file)
   pub bytes : take (length file) (writeWith head cut m first last room .room) ≡ file
 
--- what a loading into n leaves, if it puts just the words from first to last of m there, by so many records
-pub record PutBack (records : ℕ) (m : List ℕ) (first last : ℕ) (n : List ℕ) (after : Loading) : Type 0 where
-  pub answer : after .answer ≡ answered records
-  pub region : (a : ℕ) → first ≤ a → a ≤ last → peekOf (after .memory) a ≡ peekOf m a
-  pub below : (a : ℕ) → a < first → peekOf (after .memory) a ≡ peekOf n a
-  pub above : (a : ℕ) → last < a → peekOf (after .memory) a ≡ peekOf n a
-  pub size : length (after .memory) ≡ length n
+-- a written file that is loaded into any memory, on a board that its head names, lays the region's words there, or is refused by 1 or 11
+abbrev pub WrittenLaysAt : (List ℕ → Opening) → ImageHead → ℕ → ℕ → ℕ → Type 0
+WrittenLaysAt opening head board cut limit =
+    (m : List ℕ) (first last : ℕ) (file : List ℕ) →
+    WrittenFile head cut m first last file →
+    (n : List ℕ) →
+    loadWith opening limit board n file ≡ laying (recordCount cut (spanOf first last)) n first (wordsBetween m first last)
+
+abbrev pub WrittenLays : Type 0
+WrittenLays =
+    (opening : List ℕ → Opening) (head : ImageHead) →
+    ReadsBack opening head →
+    (board : ℕ) →
+    isFor head board ≡ true →
+    (cut limit : ℕ) →
+    0 < cut →
+    cut ≤ limit →
+    WrittenLaysAt opening head board cut limit
+
+-- .. of document 01's own writer and loader: on the same board
+abbrev pub OwnLays : Type 0
+OwnLays = (board : ℕ) → WrittenLaysAt headOf (idHead board) board recordLimit recordLimit
 
 -- "loading its file puts exactly that region back": on a board that its head names, into any memory that is large enough. The loader may
 -- take longer records than the writer makes.
@@ -157,8 +173,7 @@ OwnByteChanged = ByteChangedAt headOf recordLimit
 abbrev pub LoadRefusesOrAnswers : Type 0
 LoadRefusesOrAnswers =
     (opening : List ℕ → Opening) (limit board : ℕ) (m file : List ℕ) →
-    ((r : Refusal) × (loadWith opening limit board m file ≡ refuseLoad m r))
-    ⊎ ((n : ℕ) × ((loadWith opening limit board m file .answer ≡ answered n) × (n ≤ length file)))
+    RefusesOrLoads m (length file) (loadWith opening limit board m file)
 
 -- whatever comes of a loading, the memory has as many words as before
 abbrev pub LoadKeepsLength : Type 0

@@ -1,5 +1,4 @@
 -- What the loader and the writer promise. Read Format first, the form of a file; then Read, Load and Write. Laws says what they come to.
-pub mod Bytes
 pub mod Format
 pub mod Read
 pub mod Answer

@@ -4,29 +4,12 @@ use mathlib.Core.Bool.{Bool, true, false, cond}
 use mathlib.Core.List.{List, [], _∷_}
 use lib.Dec.{eqb}
 use lib.ListN.{length, drop}
-use Rattle.refusal.specs.declared.Refusal.{Refusal}
 use Rattle.refusal.specs.declared.Refusal.the-variants.{MemoryTooLong, WrongBoard, SumDiffers}
-use Rattle.refusal.specs.Refusals.{refusalNumber}
-use Rattle.refusal.specs.Report.{Report, refused, answered}
 use Rattle.memory.specs.Memory.{tooLong}
-use Rattle.records.specs.Records.{Record, placed}
-use Rattle.image.specs.declared.LoadAnswer.{LoadAnswer}
+use Rattle.records.specs.Records.{Record}
+use Rattle.records.specs.Loading.{Loading, refuseLoad, acceptLoad}
 use Rattle.image.specs.Format.{recordLimit, checksum, ImageHead, headLength, headSum}
 use Rattle.image.specs.Read.{Opening, opened, unopened, headOf, Body, whole, broken, bodyOf}
-use Rattle.image.specs.Answer.{loadReported}
-
--- all that a loading leaves: what it reports, and the memory
-pub record Loading : Type 0 where
-  pub answer : Report ℕ
-  pub memory : List ℕ
-
--- a refusal leaves every word as it was
-abbrev pub refuseLoad : List ℕ → Refusal → Loading
-refuseLoad m r = record { answer = refused (refusalNumber r); memory = m }
-
--- "The loader answers the number of records."
-abbrev pub acceptLoad : List ℕ → List Record → Loading
-acceptLoad m rs = record { answer = answered (length rs); memory = placed m rs }
 
 abbrev pub isAmong : ℕ → List ℕ → Bool
 isAmong n [] = false
@@ -62,7 +45,3 @@ loadWith opening limit board m file =
 -- document 01's own: "`ID` board", "count 1 to 1,024"
 abbrev pub loadOf : ℕ → List ℕ → List ℕ → Loading
 loadOf board m file = loadWith headOf recordLimit board m file
-
--- the outcome that the code's answer and the memory at its return stand for: the loader's contract says that it is `loadOf`
-abbrev pub loaded : LoadAnswer → List ℕ → Loading
-loaded r m = record { answer = loadReported r; memory = m }

@@ -8,8 +8,8 @@ use lib.Dec.{eqb, ltb}
 use lib.ListN.{length, drop}
 use Rattle.refusal.specs.declared.Refusal.{Refusal}
 use Rattle.refusal.specs.declared.Refusal.the-variants.{MalformedImage, PastMemory}
+use Rattle.bigendian.specs.Numbers.{wordAt}
 use Rattle.records.specs.Records.{Record, isWithin}
-use Rattle.image.specs.Bytes.{wordAt}
 use Rattle.image.specs.Format.{idMark, atMark, okMark, boardAt, headBytes, addressAt, countAt, recordHeadBytes, sumAt}
 use Rattle.image.specs.Format.{tailBytes, recordBytes, bodyBytes, recordAt, ImageHead, idHead}
 

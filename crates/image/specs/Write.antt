@@ -5,12 +5,13 @@ use mathlib.Core.List.{List}
 use lib.Dec.{ltb}
 use lib.ListN.{length}
 use Rattle.refusal.specs.declared.Refusal.{Refusal}
-use Rattle.refusal.specs.declared.Refusal.the-variants.{MemoryTooLong, FirstAboveLast, PastMemory, ImageRoomTooSmall}
+use Rattle.refusal.specs.declared.Refusal.the-variants.{RoomTooSmall}
 use Rattle.refusal.specs.Refusals.{refusalNumber}
 use Rattle.refusal.specs.Report.{Report, refused, answered}
-use Rattle.memory.specs.Memory.{tooLong}
-use Rattle.records.specs.Records.{isWithin, overwrite}
-use Rattle.records.specs.Cut.{spanOf, wordsBetween, cutOf, recordCount}
+use Rattle.memory.specs.Bus.{unlessBarred}
+use Rattle.records.specs.Records.{overwrite}
+use Rattle.records.specs.Region.{wordsBetween, regionAdmission}
+use Rattle.records.specs.Cut.{cutOf, recordCount}
 use Rattle.image.specs.declared.WriteAnswer.{WriteAnswer}
 use Rattle.image.specs.Format.{recordLimit, recordHeadBytes, tailBytes, ImageHead, idHead, imageOf}
 use Rattle.image.specs.Answer.{writeReported}
@@ -31,20 +32,17 @@ refuseWrite room r = record { answer = refused (refusalNumber r); room = room }
 -- "It answers the length; image room past it is untouched." "13: image room too small"
 unfoldable pub writing : List ℕ → List ℕ → Writing
 writing room file =
-    cond (ltb (length room) (length file)) (refuseWrite room ImageRoomTooSmall)
+    cond (ltb (length room) (length file)) (refuseWrite room RoomTooSmall)
     (record { answer = answered (length file); room = overwrite room 0 file })
 
 -- the file of a region
 abbrev pub regionImage : ImageHead → ℕ → List ℕ → ℕ → ℕ → List ℕ
 regionImage head limit m first last = imageOf head (cutOf limit first (wordsBetween m first last))
 
--- the writer of files with this head, which cuts at `limit`. "7: first above last"; "11: .. written region past the lent memory"
+-- the writer of files with this head, which cuts at `limit`
 unfoldable pub writeWith : ImageHead → ℕ → List ℕ → ℕ → ℕ → List ℕ → Writing
 writeWith head limit m first last room =
-    cond (tooLong m) (refuseWrite room MemoryTooLong)
-    (cond (ltb last first) (refuseWrite room FirstAboveLast)
-    (cond (isWithin (length m) first (spanOf first last)) (writing room (regionImage head limit m first last))
-    (refuseWrite room PastMemory)))
+    unlessBarred (regionAdmission m first last) (refuseWrite room) (writing room (regionImage head limit m first last))
 
 -- document 01's own: "`ID` board", "full records of 1,024"
 abbrev pub writeOf : ℕ → List ℕ → ℕ → ℕ → List ℕ → Writing

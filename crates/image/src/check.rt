@@ -26,7 +26,8 @@ fn sum_record(bytes: &[u8], address: u16, count: u16, scratch: &mut [u16]) -> u1
     ensures { λ r. ⌜ r ≡ recordSum (recordAt address count (now (bytes .entry))) % 65536 ⌝ }
 {
     let words = count as usize;
-    format::read_words(&bytes[format::RECORD_HEAD_BYTES..], &mut scratch[0..words]);
+    let end = format::RECORD_HEAD_BYTES + words * 2;
+    bigendian::read_words(&bytes[format::RECORD_HEAD_BYTES..end], scratch, 0);
     format::sum_record(address, &scratch[0..words])
 }
 

@@ -1,9 +1,8 @@
 // The writer's work: the head, the records of a region and the tail, put into the lent room.
 ghost use mathlib.Core.Path.{_≡_};
-ghost use Prim.Native.Nat.{_+_, _-_, _*_, _≤_, min};
+ghost use Prim.Native.Nat.{_+_, _≤_, min};
 ghost use lib.ListN.{length};
-ghost use lib.Seq.{sets};
-ghost use Rattle.image.specs.Bytes.{bytesOf};
+ghost use Rattle.bigendian.specs.Numbers.{bytesOf};
 ghost use Rattle.records.specs.Records.{recordOver};
 ghost use Rattle.records.specs.Cut.{cutOf};
 ghost use Rattle.image.specs.Format.{recordLimit, headBytes, recordBytes, recordWords, idHead, imageOf};
@@ -22,37 +21,25 @@ fn image_length(words: usize) -> usize
     format::HEAD_BYTES + format::TAIL_BYTES + records * format::RECORD_HEAD_BYTES + words * 2
 }
 
-fn put_words(room: &mut [u8], at: usize, words: &[u16])
-    requires { ⌜ at + length (now words) * 2 ≤ length (now room) ⌝ }
-    ensures { λ r. ⌜ now (room .exit) ≡ sets (now (room .entry)) at (bytesOf (now (words .entry))) ⌝ }
+// A record of these words, of which there are at most as many as the limit, over a room that it fills.
+fn put_record(room: &mut [u8], address: u16, words: &[u16])
+    requires { ⌜ (length (now words) ≤ recordLimit) × (length (now room) ≡ recordBytes (length (now words))) ⌝ }
+    ensures { λ r. ⌜ now (room .exit) ≡ bytesOf (recordWords (recordOver address (now (words .entry)))) ⌝ }
 {
-    let mut i = 0;
-    while i < words.len() {
-        format::put_word(room, at + i * 2, words[i]);
-        i += 1;
-    }
+    bigendian::put_word(room, 0, format::AT_MARK);
+    bigendian::put_word(room, format::ADDRESS_AT, address);
+    bigendian::put_word(room, format::COUNT_AT, words.len() as u16);
+    bigendian::put_words(room, format::RECORD_HEAD_BYTES, words);
 }
 
-// A record of these words, of which there are at most as many as the limit.
-fn put_record(room: &mut [u8], at: usize, address: u16, words: &[u16])
-    requires { ⌜ (length (now words) ≤ recordLimit) × (at + recordBytes (length (now words)) ≤ length (now room)) ⌝ }
-    ensures { λ r. ⌜ now (room .exit) ≡ sets (now (room .entry)) at (bytesOf (recordWords (recordOver address (now (words .entry))))) ⌝ }
+// How many words the next record has, of so many that are left.
+fn next_count(left: usize) -> usize
+    ensures { λ r. ⌜ r ≡ min recordLimit left ⌝ }
 {
-    format::put_word(room, at, format::AT_MARK);
-    format::put_word(room, at + format::ADDRESS_AT, address);
-    format::put_word(room, at + format::COUNT_AT, words.len() as u16);
-    put_words(room, at + format::RECORD_HEAD_BYTES, words);
-}
-
-// The place after a record that begins at a word of a region of `words` words.
-fn record_end(start: usize, words: usize) -> usize
-    requires { ⌜ (start ≤ words) × (words ≤ 65536) ⌝ }
-    ensures { λ r. ⌜ r ≡ start + min recordLimit (words - start) ⌝ }
-{
-    if words - start < format::RECORD_LIMIT {
-        words
+    if left < format::RECORD_LIMIT {
+        left
     } else {
-        start + format::RECORD_LIMIT
+        format::RECORD_LIMIT
     }
 }
 
@@ -65,11 +52,15 @@ fn put_records(room: &mut [u8], first: u16, region: &[u16]) -> u16
     let mut start = 0;
     let mut sum: u16 = 0;
     while start < region.len() {
-        let end = record_end(start, region.len());
+        let count = next_count(region.len() - start);
+        let end = start + count;
         let address = (first as usize + start) as u16;
-        put_record(room, at, address, &region[start..end]);
+        // one number, by which the compiler sees that all of the record fits its part of the room
+        let bytes = format::RECORD_HEAD_BYTES + count * 2;
+        let next = at + bytes;
+        put_record(&mut room[at..next], address, &region[start..end]);
         sum = word::wrapping_add(sum, format::sum_record(address, &region[start..end]));
-        at += format::RECORD_HEAD_BYTES + (end - start) * 2;
+        at = next;
         start = end;
     }
     sum
@@ -82,13 +73,13 @@ pub(crate) fn put_image(room: &mut [u8], board: u16, first: u16, region: &[u16])
 {
     let bytes = image_length(region.len());
     if room.len() < bytes {
-        return WriteAnswer::Refused(Refusal::ImageRoomTooSmall);
+        return WriteAnswer::Refused(Refusal::RoomTooSmall);
     }
-    format::put_word(room, 0, format::ID_MARK);
-    format::put_word(room, format::BOARD_AT, board);
+    bigendian::put_word(room, 0, format::ID_MARK);
+    bigendian::put_word(room, format::BOARD_AT, board);
     let sum = put_records(room, first, region);
     let tail = bytes - format::TAIL_BYTES;
-    format::put_word(room, tail, format::OK_MARK);
-    format::put_word(room, tail + format::SUM_AT, word::wrapping_add(board, sum));
+    bigendian::put_word(room, tail, format::OK_MARK);
+    bigendian::put_word(room, tail + format::SUM_AT, word::wrapping_add(board, sum));
     WriteAnswer::Written(bytes)
 }

@@ -4,11 +4,14 @@ ghost use mathlib.Core.Path.{_≡_};
 ghost use lib.Dec.{eqb};
 ghost use lib.ListN.{length};
 ghost use Rattle.word.specs.Word.{wrapAdd};
+ghost use Rattle.records.specs.Loading.{loaded};
 ghost use Rattle.image.specs.Format.{recordLimit, idHead};
 ghost use Rattle.image.specs.Read.{partOf, firstOf, bodyOf};
 ghost use Rattle.image.specs.Answer.{firstReported};
-ghost use Rattle.image.specs.Load.{isFor, loaded, sumTested, loadOf};
+ghost use Rattle.image.specs.Load.{isFor, sumTested, loadOf};
 ghost use Rattle.image.specs.Write.{wrote, writeOf};
+use memory::Admission;
+use records::LoadAnswer;
 use refusal::Refusal;
 
 mod check;
@@ -20,12 +23,6 @@ mod store;
 use crate::check::Checked;
 use crate::parse::Head;
 use crate::parse::Part;
-
-// The number of records, or why the file was refused.
-pub enum LoadAnswer {
-    Refused(Refusal),
-    Loaded(usize),
-}
 
 // The length of the file, or why it was not written.
 pub enum WriteAnswer {
@@ -115,20 +112,11 @@ pub fn first_record(bytes: &[u8], size: usize) -> FirstRecord
 pub fn write(board: u16, mem: &[u16], first: u16, last: u16, room: &mut [u8]) -> WriteAnswer
     ensures { λ r. ⌜ wrote r (now (room .exit)) ≡ writeOf board (now (mem .entry)) first last (now (room .entry)) ⌝ }
 {
-    let long = memory::is_too_long(mem);
-    if long {
-        return WriteAnswer::Refused(Refusal::MemoryTooLong);
+    let admission = records::admit_region(mem, first, last);
+    if let Admission::Barred(refusal) = admission {
+        return WriteAnswer::Refused(refusal);
     }
-    if last < first {
-        return WriteAnswer::Refused(Refusal::FirstAboveLast);
-    }
-    // the last word lies within, and so does the whole region
-    let within = records::is_within(mem.len(), last, 1);
-    if within {
-        let start = first as usize;
-        let end = last as usize + 1;
-        emit::put_image(room, board, first, &mem[start..end])
-    } else {
-        WriteAnswer::Refused(Refusal::PastMemory)
-    }
+    let start = first as usize;
+    let end = last as usize + 1;
+    emit::put_image(room, board, first, &mem[start..end])
 }

@@ -26,10 +26,10 @@ pub(crate) fn read_head(file: &[u8]) -> Head
     if file.len() < format::HEAD_BYTES {
         return Head::Malformed;
     }
-    if format::word_at(file, 0) != format::ID_MARK {
+    if bigendian::word_at(file, 0) != format::ID_MARK {
         return Head::Malformed;
     }
-    Head::Board(format::word_at(file, format::BOARD_AT))
+    Head::Board(bigendian::word_at(file, format::BOARD_AT))
 }
 
 // A record for a memory of `size` words: its count is tested before its words are, and these before where they go.
@@ -39,8 +39,8 @@ fn read_record(bytes: &[u8], size: usize) -> Part
     if bytes.len() < format::RECORD_HEAD_BYTES {
         return Part::Offence(Refusal::MalformedImage);
     }
-    let address = format::word_at(bytes, format::ADDRESS_AT);
-    let count = format::word_at(bytes, format::COUNT_AT);
+    let address = bigendian::word_at(bytes, format::ADDRESS_AT);
+    let count = bigendian::word_at(bytes, format::COUNT_AT);
     let words = count as usize;
     if words == 0 {
         return Part::Offence(Refusal::MalformedImage);
@@ -69,7 +69,7 @@ fn read_tail(bytes: &[u8]) -> Part
     if bytes.len() != format::TAIL_BYTES {
         return Part::Offence(Refusal::MalformedImage);
     }
-    Part::Tail(format::word_at(bytes, format::SUM_AT))
+    Part::Tail(bigendian::word_at(bytes, format::SUM_AT))
 }
 
 pub(crate) fn read_part(bytes: &[u8], size: usize) -> Part
@@ -78,7 +78,7 @@ pub(crate) fn read_part(bytes: &[u8], size: usize) -> Part
     if bytes.len() < 2 {
         return Part::Offence(Refusal::MalformedImage);
     }
-    let mark = format::word_at(bytes, 0);
+    let mark = bigendian::word_at(bytes, 0);
     if mark == format::AT_MARK {
         return read_record(bytes, size);
     }

@@ -15,10 +15,12 @@ fn store_record(bytes: &[u8], address: u16, count: u16, mem: &mut [u16])
     requires { ⌜ (recordBytes count ≤ length (now bytes)) × (address + count ≤ length (now mem)) ⌝ }
     ensures { λ r. ⌜ now (mem .exit) ≡ overwrite (now (mem .entry)) address (recordAt address count (now (bytes .entry)) .words) ⌝ }
 {
-    let words = count as usize;
-    let start = address as usize;
-    let end = start + words;
-    format::read_words(&bytes[format::RECORD_HEAD_BYTES..], &mut mem[start..end]);
+    let end = format::RECORD_HEAD_BYTES + count as usize * 2;
+    bigendian::read_words(
+        &bytes[format::RECORD_HEAD_BYTES..end],
+        mem,
+        address as usize,
+    );
 }
 
 // `body` is the file after its head, which the first pass found whole.

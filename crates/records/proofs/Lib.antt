@@ -2,3 +2,4 @@
 pub mod OverLaws
 pub mod PlacedLaws
 pub mod RegionLaws
+pub mod LoadLaws

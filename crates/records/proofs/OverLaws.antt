@@ -1,18 +1,12 @@
 -- Laws of a run of words laid over another.
-use Prim.Native.Nat.{ℕ, suc, _+_, _<_, _≤_}
+use Prim.Native.Nat.{ℕ, _+_, _<_, _≤_}
 use mathlib.Core.Path.{_≡_, sym, ap, _∙_}
 use mathlib.Core.List.{List, [], _∷_, _++_}
 use native.Mathlib.Omega.{arith}
-use lib.ListN.{length, getD, take, drop, set, length-append, List·getD-append}
+use lib.ListN.{length, getD, take, drop, length-append, List·getD-append}
 use lib.Seq.{getD-append-add, getD-take, getD-drop, length-take-le, sets, sets-eq, length-sets}
+use Rattle.word.proofs.SetsLaws.{sets-split}
 use Rattle.records.specs.Records.{overwrite}
-
--- a run of stores in two parts
-pub sets-split : (d : List ℕ) (a : ℕ) (xs ys : List ℕ) → sets d a (xs ++ ys) ≡ sets (sets d a xs) (a + length xs) ys
-sets-split d a [] ys = let e : a + 0 ≡ a = omega arith in rw e
-sets-split d a (x ∷ xs) ys =
-    let e : a + suc (length xs) ≡ suc a + length xs = omega arith in
-    rw e (sets-split (set d a x) (suc a) xs ys)
 
 pub overwrite-sets : (d : List ℕ) (a : ℕ) (xs : List ℕ) → a + length xs ≤ length d → overwrite d a xs ≡ sets d a xs
 unfolding overwrite

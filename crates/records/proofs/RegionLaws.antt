@@ -1,5 +1,5 @@
 -- The laws of a region's words cut into records.
-use Prim.Native.Nat.{ℕ, zero, suc, _+_, _-_, _/_, _<_, _≤_}
+use Prim.Native.Nat.{ℕ, zero, suc, min, _+_, _-_, _/_, _<_, _≤_}
 use mathlib.Core.Path.{_≡_, refl, sym, ap, _∙_}
 use mathlib.Core.Bool.{Bool, true, false, cond}
 use mathlib.Core.List.{List, [], _∷_}
@@ -14,6 +14,7 @@ use Rattle.records.specs.Records.{Record, recordOver, isWithin, allWithi
 use Rattle.records.specs.Cut.{cutFrom, cutOf, recordCount}
 use Rattle.records.specs.Laws.{Sized, CutLaws}
 use Rattle.records.proofs.OverLaws.{overwrite-length, overwrite-nil, overwrite-split}
+use Rattle.records.proofs.PlacedLaws.{split}
 
 -- One record more, for a full one and for a shorter one at the end.
 count-full : (limit n : ℕ) → 0 < limit → limit ≤ n → recordCount limit (n - limit) + 1 ≡ recordCount limit n
@@ -133,6 +134,26 @@ module _ (limit : ℕ) (p : 0 < limit) where
       cond-true _ _ (le-leb (a + length (take limit ws)) len (omega arith)) ∙ ih (omega arith))
       a ws (leb-true (a + length ws) len h)
 
+  -- records that all lie within leave no word outside
+  reaches : (a : ℕ) (ws : List ℕ) (len : ℕ) → allWithin len (cutOf limit a ws) ≡ true → 0 < length ws → a + length ws ≤ len
+  reaches a ws len =
+      cut-holds (λ a ws rs. allWithin len rs ≡ true → 0 < length ws → a + length ws ≤ len) (λ a ws h e l. absurd (omega arith)) (λ a ws rs h ih e l.
+      let s = split len (recordOver a (take limit ws)) rs e in
+      last-or-more a (length (take limit ws)) (length ws) len (length (drop limit ws)) (length-take limit ws) (length-drop limit ws) (s .here) (ih (s .later)))
+      a ws
+    where
+      last-or-more : (a k n len d : ℕ) → k ≡ min limit n → d ≡ n - limit → a + k ≤ len → (0 < d → a + k + d ≤ len) → a + n ≤ len
+      last-or-more a k n len zero p q h f = omega arith
+      last-or-more a k n len (suc d) p q h f = omega (arith, f (omega arith))
+
+  exactly : (a : ℕ) (ws : List ℕ) (len : ℕ) → 0 < length ws → allWithin len (cutOf limit a ws) ≡ isWithin len a (length ws)
+  exactly a ws len h = go (allWithin len (cutOf limit a ws)) (isWithin len a (length ws)) refl refl
+    where
+      go : (u v : Bool) → allWithin len (cutOf limit a ws) ≡ u → isWithin len a (length ws) ≡ v → u ≡ v
+      go true v e f = sym (le-leb (a + length ws) len (reaches a ws len e h)) ∙ f
+      go false true e f = sym e ∙ within a ws len f
+      go false false e f = refl
+
   laid : (a : ℕ) (ws m : List ℕ) → isWithin (length m) a (length ws) ≡ true → placed m (cutOf limit a ws) ≡ overwrite m a ws
   laid a ws m h =
       cut-holds (λ a ws rs. (m : List ℕ) → a + length ws ≤ length m → placed m rs ≡ overwrite m a ws)
@@ -153,6 +174,7 @@ cut-laws =
       equation = λ limit a ws p. equation limit p a ws;
       sized = λ limit a ws p. sized limit p a ws;
       count = λ limit a ws p. count limit p a ws;
+      exactly = λ limit a ws len p. exactly limit p a ws len;
       within = λ limit a ws len p. within limit p a ws len;
       laid = λ limit a ws m p. laid limit p a ws m;
     }

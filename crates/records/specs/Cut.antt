@@ -1,17 +1,10 @@
--- A region's words, and the records that they are cut into: "full records of 1,024, the last perhaps shorter", with the limit a parameter.
+-- The records that words are cut into: "full records of 1,024, the last perhaps shorter", with the limit a parameter.
 use Prim.Native.Nat.{ℕ, zero, suc, _+_, _-_, _/_}
 use mathlib.Core.Bool.{cond}
 use mathlib.Core.List.{List, [], _∷_}
 use lib.Dec.{eqb}
 use lib.ListN.{length, take, drop}
 use Rattle.records.specs.Records.{Record, recordOver}
-
--- how many words there are from first to last, both included, and the words
-abbrev pub spanOf : ℕ → ℕ → ℕ
-spanOf first last = last + 1 - first
-
-abbrev pub wordsBetween : List ℕ → ℕ → ℕ → List ℕ
-wordsBetween m first last = take (spanOf first last) (drop first m)
 
 -- the words ws from address a on, cut into records of `limit` words, the last perhaps shorter: each begins where the one before it
 -- ends. By at most n records, of a word or more each; `CutLaws.equation` says the same without n.

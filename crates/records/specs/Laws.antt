@@ -7,6 +7,7 @@ use lib.Dec.{eqb}
 use lib.ListN.{length, take, drop}
 use Rattle.memory.specs.Memory.{peekOf}
 use Rattle.records.specs.Records.{Record, recordOver, isWithin, allWithin, overwrite, placed}
+use Rattle.records.specs.Loading.{laying, LoadedAlike}
 use Rattle.records.specs.Cut.{cutOf, recordCount}
 
 -- a record puts a word at the address a
@@ -51,6 +52,12 @@ pub record CutLaws : Type 0 where
       ≡ cond (eqb (length ws) 0) [] (recordOver a (take limit ws) ∷ cutOf limit (a + length (take limit ws)) (drop limit ws))
   pub sized : (limit a : ℕ) (ws : List ℕ) → 0 < limit → Sized limit (cutOf limit a ws)
   pub count : (limit a : ℕ) (ws : List ℕ) → 0 < limit → length (cutOf limit a ws) ≡ recordCount limit (length ws)
+  -- the words lie within exactly where all their records do
+  pub exactly :
+      (limit a : ℕ) (ws : List ℕ) (len : ℕ) →
+      0 < limit →
+      0 < length ws →
+      allWithin len (cutOf limit a ws) ≡ isWithin len a (length ws)
   -- where the words lie within, so do the records, and these leave what the words laid there at once would
   pub within :
       (limit a : ℕ) (ws : List ℕ) (len : ℕ) →
@@ -62,3 +69,7 @@ pub record CutLaws : Type 0 where
       0 < limit →
       isWithin (length m) a (length ws) ≡ true →
       placed m (cutOf limit a ws) ≡ overwrite m a ws
+
+-- layings of the same words into the same memory come to the same, whatever the number of records
+abbrev pub LayingsAlike : Type 0
+LayingsAlike = (j k : ℕ) (n : List ℕ) (a : ℕ) (ws : List ℕ) → LoadedAlike (laying j n a ws) (laying k n a ws)

@@ -6,7 +6,7 @@ use native.Mathlib.Omega.{arith}
 use native.Mathlib.Numerals.{add-one}
 use lib.ListN.{length, getD, take, set, length-take, length-append}
 use lib.Seq.{take-suc, sets, length-sets, sets-eq, length-take-le}
-use Rattle.records.proofs.OverLaws.{sets-split}
+use Rattle.word.proofs.SetsLaws.{sets-split}
 use Rattle.refusal.specs.Report.{Report, isRefused}
 use Rattle.memory.specs.Map.{allRam}
 use Rattle.memory.specs.Bus.{busOn}

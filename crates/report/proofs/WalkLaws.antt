@@ -6,14 +6,15 @@ use mathlib.Core.List.{List, [], _∷_, _++_, append-assoc, append-nil}
 use native.Mathlib.Omega.{arith}
 use lib.ListN.{length, take, drop, length-drop}
 use lib.Seq.{drop-drop}
+use Rattle.word.proofs.SetsLaws.{rest}
 use Rattle.memory.specs.Bus.{Bus, readOf}
 use Rattle.image.specs.declared.FirstRecord.{FirstRecord}
 use Rattle.image.specs.declared.FirstRecord.the-variants.{Record as FoundRecord, NoRecord}
 use Rattle.records.specs.Records.{Record}
-use Rattle.image.specs.Format.{recordLimit, headBytes, recordHeadBytes, recordBytes}
+use Rattle.image.specs.Format.{recordLimit, headBytes, recordBytes}
 use Rattle.image.specs.Read.{partOf, firstOf, whole, bodyOf}
 use Rattle.image.specs.Answer.{firstReported}
-use Rattle.image.proofs.ByteLaws.{rest, words-length}
+use Rattle.image.proofs.ReadLaws.{record-length}
 use Rattle.image.proofs.FirstLaws.{Behind, first-behind, none-behind}
 use Rattle.report.specs.declared.Program.{Program}
 use Rattle.report.specs.declared.page.Page.{Page}
@@ -136,7 +137,7 @@ module _ {program : Program} {b : Bus} {file room₀ : List ℕ} {at : ℕ} {roo
         size = omega (arith, k .size, s .puts .place, record-size program b a c (v .sound .some));
         few = omega (arith, k .few, s .count, record-few program b a c (v .sound .some));
         adds = adds-then (k .adds) s;
-        same = append-assoc (k .done) _ _ ∙ rw (v .all, words-length c (drop recordHeadBytes (drop from file))) at (k .same);
+        same = append-assoc (k .done) _ _ ∙ rw (v .all, record-length a c (drop from file)) at (k .same);
       }
 
   pub walked-end : r ≡ NoRecord → length file ≤ inputLimit → Fills room₀ at (recordsLines program b (recordsOf file)) room page

@@ -8,9 +8,10 @@ use Rattle.refusal.specs.declared.Refusal.the-variants.{MalformedImage}
 use Rattle.refusal.specs.Refusals.{refusalNumber}
 use Rattle.refusal.specs.Report.{Report, refused, answered}
 use Rattle.records.specs.Records.{Record}
+use Rattle.records.specs.Loading.{Loading}
 use Rattle.image.specs.Format.{recordLimit, bodyBytes}
 use Rattle.image.specs.Read.{Body, whole, broken, bodyOf}
-use Rattle.image.specs.Load.{Loading, loadOf}
+use Rattle.image.specs.Load.{loadOf}
 
 abbrev pub boardNumber : ℕ
 boardNumber = 2

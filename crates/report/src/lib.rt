@@ -6,7 +6,7 @@ ghost use Rattle.image.specs.Load.{loadOf};
 ghost use Rattle.report.specs.Reading.{boardNumber, boardWords, inputLimit, readRoom, inputOf, readingAfter, readingOf};
 ghost use Rattle.report.specs.Program.{printingOf, printing, Within};
 ghost use Rattle.report.specs.inner.Page.{textRoom, Prints};
-use image::LoadAnswer;
+use records::LoadAnswer;
 use refusal::Refusal;
 
 mod file;

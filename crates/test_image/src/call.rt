@@ -9,8 +9,8 @@ use harness::bytes;
 use harness::fields;
 use harness::text;
 use harness::words;
-use image::LoadAnswer;
 use image::WriteAnswer;
+use records::LoadAnswer;
 
 fn of_load(answer: LoadAnswer) -> Answer {
     match answer {

@@ -2,3 +2,4 @@
 pub mod Choice
 pub mod WordLaws
 pub mod FlagLaws
+pub mod SetsLaws

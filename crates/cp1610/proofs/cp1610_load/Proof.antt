@@ -1,7 +1,7 @@
 -- `cp1610_load`: the definition is rewritten back to what the loader answered; there are no more records than bytes.
 use mathlib.Core.Path.{ap}
 use native.Mathlib.Omega.{arith}
-use Rattle.image.specs.Answer.{loadReported}
+use Rattle.records.specs.Loading.{loadReported}
 use Rattle.cp1610.specs.ImageCall.{loadCall}
 use Rattle.cp1610.proofs.ReportLaws.{told-loading}
 use Rattle.cp1610.proofs.EndLaws.{count-most, count-refused, count-answered}

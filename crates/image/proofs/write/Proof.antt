@@ -1,48 +1,46 @@
--- The writer's refusals in their order: each return is one of its tests.
-use Prim.Native.Nat.{_+_}
+-- What the region's admission answers decides; a region that is let in lies within the memory.
 use mathlib.Core.Path.{sym, _∙_}
 use native.Mathlib.Omega.{arith}
-use lib.ListN.{length}
-use borrow.Author.Tests.{leb-true}
-use Rattle.image.proofs.EmitLaws.{write-long, write-above, write-past, write-here}
+use Rattle.memory.proofs.BusLaws.{unless-in, unless-out}
+use Rattle.records.proofs.LoadLaws.{admitted-region}
+use Rattle.image.specs.Write.{refuseWrite, writeWith}
 use borrow.Author.Needs.{needs}
 use Rattle.image.proofs.write.Statement.{statement}
 use Rattle.image.proofs.write.Tie as tie
 
 returns : tie.Need-returns
-returns c = let a = c .before .before .before .before .args in
-    write-long (a .board) (a .mem .now) (a .first) (a .last) (a .room .now) (sym (c .before .is-too-long .ensures) ∙ c .if1 .taken)
+unfolding writeWith
+returns c = sym (unless-out (refuseWrite (c .before .before .before .before .before .before .args .room .now)) _ (sym (c .before .before .before .admit-region .ensures) ∙ c .before .admission .given .1))
 
-returns-2 : tie.Need-returns-2
-returns-2 c = let a = c .before .before .before .before .before .args in
-    write-above (a .board) (a .mem .now) (a .first) (a .last) (a .room .now) (sym (c .before .before .is-too-long .ensures) ∙ c .before .if1 .left) (c .if2 .taken)
+sub-put-image : tie.Need-sub-put-image
+sub-put-image c = omega (arith, admitted-region _ _ _ (sym (c .before .before .before .admit-region .ensures) ∙ c .before .enum-told .given .1))
+
+part-put-image-start : tie.Need-part-put-image-start
+part-put-image-start c = omega (arith, admitted-region _ _ _ (sym (c .before .before .before .admit-region .ensures) ∙ c .before .enum-told .given .1))
 
 part-put-image-end : tie.Need-part-put-image-end
-part-put-image-end c = let a = c .before .before .before .before .before .before .before .before .args in
-    omega (arith, leb-true (a .last + 1) (length (a .mem .now)) (sym (c .before .before .is-within .ensures) ∙ c .before .if3 .taken))
+part-put-image-end c = omega (arith, admitted-region _ _ _ (sym (c .before .before .before .admit-region .ensures) ∙ c .before .enum-told .given .1))
 
-returns-3 : tie.Need-returns-3
-returns-3 c = let a = c .before .before .before .before .before .before .before .before .before .before .before .before .args in
-    c .before .before .put-image .ensures ∙ write-here (a .board) (a .mem .now) (a .first) (a .last) (a .room .now) (sym (c .before .before .before .before .before .before .before .before .before .is-too-long .ensures) ∙ c .before .before .before .before .before .before .before .before .if1 .left) (c .before .before .before .before .before .before .before .if2 .left) (sym (c .before .before .before .before .before .before .is-within .ensures) ∙ c .before .before .before .before .before .if3 .taken)
+put-image-requires : tie.Need-put-image-requires
+put-image-requires c κs = omega (arith, admitted-region _ _ _ (sym (c .before .before .before .before .admit-region .ensures) ∙ c .before .before .enum-told .given .1))
 
-returns-4 : tie.Need-returns-4
-returns-4 c = let a = c .before .before .before .before .before .before .before .args in
-    write-past (a .board) (a .mem .now) (a .first) (a .last) (a .room .now) (sym (c .before .before .before .before .is-too-long .ensures) ∙ c .before .before .before .if1 .left) (c .before .before .if2 .left) (sym (c .before .is-within .ensures) ∙ c .if3 .left)
+returns-2 : tie.Need-returns-2
+unfolding writeWith
+returns-2 c = c .before .before .put-image .ensures ∙ sym (unless-in (refuseWrite (c .before .before .before .before .before .before .before .before .before .before .args .room .now)) _ (sym (c .before .before .before .before .before .before .before .admit-region .ensures) ∙ c .before .before .before .before .before .enum-told .given .1))
 
 pub write-spec : {M : Type 1} → statement M
 write-spec =
     tie.close
     (tie.spec
     (λ c κs. search needs)
+    (λ c. search needs)
     returns
-    returns-2
-    (λ c κs. search needs)
     (λ c. search needs)
     (λ c. search needs)
     (λ c. search needs)
-    (λ c. search needs)
+    sub-put-image
+    part-put-image-start
     part-put-image-end
-    (λ c κs. search needs)
+    put-image-requires
     (λ c. search needs)
-    returns-3
-    returns-4)
+    returns-2)

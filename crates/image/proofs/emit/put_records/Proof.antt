@@ -1,10 +1,9 @@
 -- The writer's loop over records, by the record `Emitting`.
-use Rattle.image.proofs.EmitLaws.{emitting-words}
 use Prim.Native.Nat.{_-_}
 use native.Mathlib.Omega.{arith}
 use borrow.Author.Needs.{needs}
 use lib.ListN.{length}
-use Rattle.image.proofs.EmitLaws.{Emitting, emitting, emitting-length, emitting-fits, emitting-on, emitting-end}
+use Rattle.image.proofs.EmitLaws.{Emitting, emitting, emitting-length, emitting-fits, emitting-words, emitting-room, emitting-on, emitting-end}
 use Rattle.image.proofs.emit.put_records.Statement.{statement}
 use Rattle.image.proofs.emit.put_records.Tie as tie
 
@@ -17,16 +16,20 @@ abbrev μ-loop : tie.MeasureT-loop
 loop-holds : tie.Need-loop-holds Inv-loop μ-loop
 loop-holds c = emitting _ _ _ (c .before .before .pre .1)
 
-put-record-requires : tie.Need-put-record-requires Inv-loop μ-loop
-put-record-requires c κs = let l = emitting-words (c .before .before .before .before .loop .inv) (c .before .before .before .loop-test .taken) (c .before .before .record-end .ensures) in
-    (omega arith, emitting-fits (c .before .before .before .before .loop .inv) (c .before .before .before .loop-test .taken) (c .before .before .record-end .ensures) l)
+add-next : tie.Need-add-next Inv-loop μ-loop
+add-next c = omega (arith, emitting-fits (c .before .before .loop .inv) (c .before .loop-test .taken) (c .next-count .ensures), emitting-length (c .before .before .loop .inv))
 
-add-at-2 : tie.Need-add-at-2 Inv-loop μ-loop
-add-at-2 c = let f = emitting-fits (c .before .before .before .before .before .before .before .before .before .before .loop .inv) (c .before .before .before .before .before .before .before .before .before .loop-test .taken) (c .before .before .before .before .before .before .before .before .record-end .ensures) {n = c .before .before .before .before .before .before .before .before .record-end .result - c .before .before .before .before .before .before .before .before .before .before .loop .start} (omega (arith, c .before .before .before .before .before .before .before .before .record-end .ensures)) in
-    omega (arith, f, emitting-length (c .before .before .before .before .before .before .before .before .before .before .loop .inv))
+part-put-record-end : tie.Need-part-put-record-end Inv-loop μ-loop
+part-put-record-end c = emitting-fits (c .before .before .loop .inv) (c .before .loop-test .taken) (c .next-count .ensures)
+
+put-record-requires : tie.Need-put-record-requires Inv-loop μ-loop
+put-record-requires c κs =
+    let i = c .before .before .before .before .loop .inv in
+    let l = emitting-words i (c .before .before .before .loop-test .taken) (c .before .before .next-count .ensures) in
+    (omega arith, emitting-room i (c .before .before .before .loop-test .taken) (c .before .before .next-count .ensures))
 
 loop-again : tie.Need-loop-again Inv-loop μ-loop
-loop-again c = emitting-on (c .before .before .before .before .before .before .before .before .before .before .loop .inv) (c .before .before .before .before .before .before .before .before .before .loop-test .taken) (c .before .before .before .before .before .before .before .before .record-end .ensures) (c .before .before .before .before .before .put-record .ensures) (c .before .sum-record .ensures) (c .wrapping-add .ensures)
+loop-again c = emitting-on (c .before .before .before .before .before .before .before .before .before .before .loop .inv) (c .before .before .before .before .before .before .before .before .before .loop-test .taken) (c .before .before .before .before .before .before .before .before .next-count .ensures) (c .before .before .before .before .before .put-record .ensures) (c .before .sum-record .ensures) (c .wrapping-add .ensures)
 
 same-length : tie.Need-same-length Inv-loop μ-loop
 same-length c = emitting-length (c .before .loop .inv)
@@ -41,9 +44,17 @@ put-records-spec =
     Inv-loop
     μ-loop
     loop-holds
+    (λ c. search needs)
     (λ c κs. search needs)
     (λ c. search needs)
     (λ c. search needs)
+    (λ c. search needs)
+    (λ c. search needs)
+    (λ c. search needs)
+    add-next
+    (λ c. search needs)
+    (λ c. search needs)
+    part-put-record-end
     (λ c. search needs)
     (λ c. search needs)
     (λ c. search needs)
@@ -55,10 +66,6 @@ put-records-spec =
     (λ c. search needs)
     (λ c κs. search needs)
     (λ c κs. search needs)
-    (λ c. search needs)
-    (λ c. search needs)
-    (λ c. search needs)
-    add-at-2
     (λ c. search needs)
     loop-again
     same-length

@@ -4,8 +4,8 @@ use Prim.Native.Nat.{_/_}
 use native.Mathlib.Omega.{arith}
 use lib.ListN.{length-set}
 use borrow.Author.Needs.{needs}
-use Rattle.image.proofs.format.put_word.Statement.{statement}
-use Rattle.image.proofs.format.put_word.Tie as tie
+use Rattle.bigendian.proofs.put_pair.Statement.{statement}
+use Rattle.bigendian.proofs.put_pair.Tie as tie
 
 slice-write-room-2 : tie.Need-slice-write-room-2
 slice-write-room-2 c = omega (arith, length-set (c .args .room .now) (c .args .at) (c .args .word / 256))
@@ -13,8 +13,8 @@ slice-write-room-2 c = omega (arith, length-set (c .args .room .now) (c .args .a
 returns : tie.Need-returns
 returns c = rw add-one
 
-pub put-word-spec : {M : Type 1} → statement M
-put-word-spec =
+pub put-pair-spec : {M : Type 1} → statement M
+put-pair-spec =
     tie.close
     (tie.spec
     (λ c. search needs)

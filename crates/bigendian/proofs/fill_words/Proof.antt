@@ -4,9 +4,9 @@ use native.Mathlib.Omega.{arith}
 use mathlib.Core.Path.{refl, _∙_}
 use borrow.Author.Needs.{needs}
 use lib.ListN.{length}
-use Rattle.image.proofs.PassLaws.{Copying, Exchanging, copying-on, copying-end, exchanging-on, exchanging-end}
-use Rattle.image.proofs.format.read_words.Statement.{statement}
-use Rattle.image.proofs.format.read_words.Tie as tie
+use Rattle.bigendian.proofs.ReadLaws.{Copying, Exchanging, copying-on, copying-end, exchanging-on, exchanging-end}
+use Rattle.bigendian.proofs.fill_words.Statement.{statement}
+use Rattle.bigendian.proofs.fill_words.Tie as tie
 
 -- a number with its two bytes exchanged
 abbrev exchanged : ℕ → ℕ
@@ -42,8 +42,8 @@ same-length c = c .before .loop2 .inv .size ∙ c .before .before .before .loop 
 returns : tie.Need-returns Inv-loop μ-loop Inv-loop2 μ-loop2
 returns c = rw (c .before .before .before .loop .inv .size) at (exchanging-end (c .before .loop2 .inv) (c .loop2-test .left))
 
-pub read-words-spec : {M : Type 1} → statement M
-read-words-spec =
+pub fill-words-spec : {M : Type 1} → statement M
+fill-words-spec =
     tie.close
     (tie.spec
     Inv-loop

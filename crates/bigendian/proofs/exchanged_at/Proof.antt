@@ -1,9 +1,9 @@
 -- Exchanging the bytes once more gives the number.
 use native.Mathlib.Omega.{arith}
-use Rattle.image.specs.Bytes.{wordAt}
+use Rattle.bigendian.specs.Numbers.{wordAt}
 use borrow.Author.Needs.{needs}
-use Rattle.image.proofs.format.exchanged_at.Statement.{statement}
-use Rattle.image.proofs.format.exchanged_at.Tie as tie
+use Rattle.bigendian.proofs.exchanged_at.Statement.{statement}
+use Rattle.bigendian.proofs.exchanged_at.Tie as tie
 
 returns : tie.Need-returns
 unfolding wordAt

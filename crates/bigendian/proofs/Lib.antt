@@ -1,0 +1,4 @@
+-- Laws of numbers in bytes, and of the loops that read and put them.
+pub mod NumberLaws
+pub mod PutLaws
+pub mod ReadLaws
