@@ -7,7 +7,7 @@ use native.Mathlib.Omega.{arith}
 use borrow.Author.Tests.{le-ltb}
 use lib.ListN.{length}
 use Rattle.refusal.specs.declared.Refusal.{Refusal}
-use Rattle.refusal.specs.Report.{Report, refused, answered}
+use Rattle.refusal.specs.Report.{Report, refused, answered, UnlessRefused}
 use Rattle.memory.specs.declared.map.Board.{Board}
 use Rattle.memory.specs.Bus.{Bus, busOn}
 use Rattle.cpu.specs.declared.Stepped.{Stepped}
@@ -25,9 +25,13 @@ use Rattle.listing.specs.declared.Listing.{Listing}
 use Rattle.listing.specs.declared.Listing.the-variants.{Refused as ListingRefused, Listed}
 use Rattle.listing.specs.Answer.{ListedLine, listingReported}
 use Rattle.listing.specs.Disassemble.{disassembleOf, disassembly}
+use Rattle.pair.specs.declared.PairAnswer.{PairAnswer}
+use Rattle.pair.specs.declared.PairAnswer.the-variants.{Refused as PairRefused, Written as PairWritten}
+use Rattle.pair.specs.Answer.{PairLengths, pairReported}
+use Rattle.pair.specs.Write.{writePairOf, wrotePair}
 use Rattle.cp1610.specs.Words.{stateLength, unpacked, packed, linesOf}
 use Rattle.cp1610.specs.MapWords.{isMap}
-use Rattle.cp1610.specs.Answers.{isRefusal, answerWord, successWord}
+use Rattle.cp1610.specs.Answers.{isRefusal, countedWord, answerWord, successWord}
 use Rattle.cp1610.specs.Called.{items, memory, called, byReport, callBy}
 use Rattle.cp1610.specs.Call.{resetCall, steppedCall, stepCall}
 use Rattle.cp1610.specs.MeterCall.{walkedWord, waitWord, waitCall}
@@ -41,6 +45,8 @@ use Rattle.cp1610.proofs.ReportLaws.{
   told-run,
   ToldListing,
   told-listing,
+  ToldPair,
+  told-pair-writing,
 }
 
 -- the reset machine, packed into a state that is long enough
@@ -136,3 +142,30 @@ pub count-answered : (before after : List ℕ) (report : Report ℕ) {n : ℕ} �
     report ≡ answered n →
     called (successWord 1 n) (items after ∷ []) ≡ callBy (countedCall before report after)
 count-answered before after report p = rw p
+
+-- a loader's word is the whole result, and its count has room there
+module _ (before after : List ℕ) (most : ℕ) (report : Report ℕ) (told : Told (after ≡ before) (λ n. n ≤ most) report) where
+  pub load-ends : called (countedWord report) (items after ∷ []) ≡ callBy (countedCall before report after)
+  load-ends = go report told
+    where
+      go : (r : Report ℕ) → Told (after ≡ before) (λ n. n ≤ most) r → called (countedWord r) (items after ∷ []) ≡ callBy (countedCall before r after)
+      go (refused n) t = rw (t .1)
+      go (answered n) t = refl
+
+  pub load-low : most < 0x8000000000000000 → UnlessRefused (λ n. n < 0x8000000000000000) report
+  load-low h = go report told
+    where
+      go : (r : Report ℕ) → Told (after ≡ before) (λ n. n ≤ most) r → UnlessRefused (λ n. n < 0x8000000000000000) r
+      go (refused n) t = tt
+      go (answered n) t = omega arith
+
+-- a refused writing of a pair left both rooms, and the lengths of another fit `out`
+module _ (m : List ℕ) (first last : ℕ) (bin cfg b c : List ℕ) (x : PairAnswer) (e : wrotePair x b c ≡ writePairOf m first last bin cfg) where
+  pair-told : ToldPair bin cfg (wrotePair x b c)
+  pair-told = subst (ToldPair bin cfg) (sym e) (told-pair-writing m first last bin cfg)
+
+  pub pair-kept : {r : Refusal} → x ≡ PairRefused r → (b ≡ bin) × (c ≡ cfg)
+  pair-kept p = kept-by ((b ≡ bin) × (c ≡ cfg)) (λ (n : PairLengths). (n .bin < 0x100000000) × (n .cfg < 0x100000000)) (pairReported x) pair-told (ap pairReported p)
+
+  pub pair-fits : {file text : ℕ} → x ≡ PairWritten file text → (file < 0x100000000) × (text < 0x100000000)
+  pair-fits p = held-by ((b ≡ bin) × (c ≡ cfg)) (λ (n : PairLengths). (n .bin < 0x100000000) × (n .cfg < 0x100000000)) (pairReported x) pair-told (ap pairReported p)

@@ -18,6 +18,7 @@ use Rattle.cpu.specs.Step.{Outcome, stepOf}
 use Rattle.run.specs.Run.{RunOutcome, runOf}
 use Rattle.meter.specs.Answer.{Answer, wait, over, halts, unspecified, Longest, noWait, longest, Lowest, noOver, overAt, Named}
 use Rattle.listing.specs.Disassemble.{textAt, Disassembly, listedDisassembly, disassembleOf}
+use Rattle.pair.specs.Write.{PairWriting, writePairOf}
 use Rattle.cp1610.specs.Words.{stateLength, isSet, unpacked, linesOf}
 use Rattle.cp1610.specs.MapWords.{rangeAt, rangesTo, boardOf, kindsTo, isMap, onMap, allRamWords}
 use Rattle.cp1610.specs.Answers.{successWord, runLength, runWords}
@@ -26,6 +27,7 @@ use Rattle.cp1610.specs.Call.{resetCall, stepCall, runCall}
 use Rattle.cp1610.specs.MeterCall.{walkedWord, waitCall, regionLength, regionWords, regionCall}
 use Rattle.cp1610.specs.ListingCall.{lineWords, assembleCall, listLength, listWords, listCall}
 use Rattle.cp1610.specs.ImageCall.{countedCall, loadCall, writeCall}
+use Rattle.cp1610.specs.PairCall.{loadPairCall, pairLength, pairWords, writePairCall}
 use Rattle.cp1610.specs.Calls.{
   cp1610-reset,
   cp1610-step,
@@ -36,6 +38,8 @@ use Rattle.cp1610.specs.Calls.{
   cp1610-assemble,
   cp1610-load,
   cp1610-write,
+  cp1610-load-pair,
+  cp1610-write-pair,
 }
 use Rattle.cp1610.specs.Read.{
   itemsIn,
@@ -48,6 +52,7 @@ use Rattle.cp1610.specs.Read.{
   readNamed,
   readListing,
   readAssembled,
+  readPairWriting,
 }
 use Rattle.cp1610.specs.Laws.{ReadsTheAnswer, HasText, ReadsTheText, HeaderMap, ShortestAreWellLent}
 use Rattle.cp1610.proofs.AnswerLaws.{set-flag, unpacks-packed, success-high, success-kind, success-value, success-count}
@@ -62,6 +67,8 @@ use Rattle.cp1610.proofs.ReportLaws.{
   told-assembly,
   told-loading,
   told-writing,
+  told-pair-loading,
+  told-pair-writing,
 }
 
 -- reset
@@ -165,8 +172,20 @@ read-counted outcome before after most report told =
     (λ n low k. rw (low, k))
     (λ n k. rw (success-high 1 n (lit≤ tt), success-count n))
 
+-- write a pair
+read-pair : (mem : List ℕ) (first last : ℕ) (bin cfg out : List ℕ) →
+    pairLength ≤ length out →
+    readPairWriting (callBy (writePairCall mem first last bin cfg out)) ≡ writePairOf mem first last bin cfg
+unfolding writePairCall pairWords
+read-pair mem first last bin cfg out h =
+    let w : PairWriting = writePairOf mem first last bin cfg in
+    by-told _ _ (writePairCall mem first last bin cfg out) (λ r c. readPairWriting c ≡ record { answer = r; bin = w .bin; cfg = w .cfg })
+    (le-ltb (length out) pairLength h) (told-pair-writing mem first last bin cfg)
+    (λ n low k. rw (low, k .0, k .1))
+    (λ n k. rw (success-high 1 0 (lit≤ tt)))
+
 pub reads-the-answer : ReadsTheAnswer
-unfolding waitCall regionCall assembleCall loadCall writeCall
+unfolding waitCall regionCall assembleCall loadCall writeCall loadPairCall
 reads-the-answer (cp1610-reset state) h = read-reset state h
 reads-the-answer (cp1610-step state mem map lines) h = read-step state map (onMap map mem) lines (h .0) (h .1)
 reads-the-answer (cp1610-run state mem map lines budget out) h = read-run state map (onMap map mem) lines budget out (h .0) (h .1) (h .2)
@@ -195,6 +214,10 @@ reads-the-answer (cp1610-load board mem file) h =
 reads-the-answer (cp1610-write board mem first last room) h =
     read-counted (λ r left. record { answer = r; room = left }) _ _ _ _ (told-writing board mem first last room refl)
 
+reads-the-answer (cp1610-load-pair mem bin cfg) h =
+    read-counted (λ r m. record { answer = r; memory = m }) _ _ _ _ (told-pair-loading mem bin cfg refl)
+reads-the-answer (cp1610-write-pair mem first last bin cfg out) h = read-pair mem first last bin cfg out h
+
 pub header-map : HeaderMap
 unfolding isMap kindsTo boardOf rangesTo rangeAt listedIn
 header-map = record { is-map = refl; all-ram = record { one = refl; whole = refl } }
@@ -213,4 +236,5 @@ shortest-are-well-lent =
       region = λ mem first last limit. (lit≤ tt, no-ranges);
       list = λ mem address d text. (lit≤ tt, no-ranges);
       assemble = λ line d. lit≤ tt;
+      write-pair = λ mem first last bin cfg. lit≤ tt;
     }

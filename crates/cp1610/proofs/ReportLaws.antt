@@ -61,6 +61,10 @@ use Rattle.image.specs.Read.{headOf}
 use Rattle.image.specs.Load.{loadOf}
 use Rattle.image.specs.Write.{Writing, refuseWrite, writeOf}
 use Rattle.image.proofs.OutcomeLaws.{load-refuses-or-answers, write-refuses-or-answers}
+use Rattle.pair.specs.Load.{loadPairOf}
+use Rattle.pair.specs.Answer.{PairLengths}
+use Rattle.pair.specs.Write.{PairWriting, writePairOf}
+use Rattle.pair.proofs.OutcomeLaws.{pair-refuses-or-loads, pair-refuses-or-writes, answers-lengths}
 use Rattle.cp1610.specs.Answers.{isRefusal}
 use Rattle.cp1610.specs.ListingCall.{lineWords}
 use Rattle.cp1610.proofs.AnswerLaws.{number-low}
@@ -232,3 +236,20 @@ told-writing board m first last room e =
     counted-told (refuseWrite room) (λ w. w .answer) (λ w. w .room) room (length room) e
     (λ r. (refl, refl))
     (write-refuses-or-answers (idHead board) recordLimit m first last room)
+
+-- a pair that was read: no more lines than bytes of the text
+pub told-pair-loading : (m bin cfg : List ℕ) {l : Loading} → l ≡ loadPairOf m bin cfg → ToldLoading m cfg l
+told-pair-loading m bin cfg e =
+    counted-told (refuseLoad m) (λ l. l .answer) (λ l. l .memory) m (length cfg) e (λ r. (refl, refl)) (pair-refuses-or-loads m bin cfg)
+
+-- a pair that was written: a refusal left both rooms, and the lengths fit `out`
+abbrev pub ToldPair : List ℕ → List ℕ → PairWriting → Type 0
+ToldPair bin cfg w = Told ((w .bin ≡ bin) × (w .cfg ≡ cfg)) (λ (n : PairLengths). (n .bin < 0x100000000) × (n .cfg < 0x100000000)) (w .answer)
+
+pub told-pair-writing : (mem : List ℕ) (first last : ℕ) (bin cfg : List ℕ) → ToldPair bin cfg (writePairOf mem first last bin cfg)
+told-pair-writing mem first last bin cfg =
+    ⊎-elim (λ p. rw (p .1) (number-low (p .0), (refl, refl)))
+    (λ p.
+    let s = answers-lengths mem first last bin cfg (p .0) (p .1 .0) in
+    rw (p .1 .0) (omega (arith, s .bin, s .few), omega (arith, s .cfg)))
+    (pair-refuses-or-writes mem first last bin cfg)

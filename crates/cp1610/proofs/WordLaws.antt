@@ -14,6 +14,8 @@ use Rattle.meter.specs.Answer.{Longest, noWait, longest, Lowest, noOver, overAt
 use Rattle.cp1610.specs.Words.{stateLength, eight, isSet, flagWord, unpacked, markWords, packed}
 use Rattle.cp1610.specs.Answers.{runLength, runWords}
 use Rattle.cp1610.specs.MeterCall.{regionLength, longestWords, lowestWords, regionWords}
+use Rattle.pair.specs.Answer.{PairLengths}
+use Rattle.cp1610.specs.PairCall.{pairLength, pairWords}
 use Rattle.cp1610.specs.ListingCall.{lineWords, listLength, listWords}
 
 -- a bool cast to a number is 1 or 0
@@ -84,6 +86,11 @@ pub stored-list : (out : List ℕ) (l : ListedLine) →
     sets out 0 (l .length ∷ l .words ∷ flagWord (l .double) ∷ []) ≡ listWords out l
 unfolding listWords
 stored-list out l h = sets-eq (l .length ∷ l .words ∷ flagWord (l .double) ∷ []) out 0 h
+
+-- the lengths of a written pair
+pub stored-lengths : (out : List ℕ) (n : PairLengths) → pairLength ≤ length out → sets out 0 (n .bin ∷ n .cfg ∷ []) ≡ pairWords out n
+unfolding pairWords
+stored-lengths out n h = sets-eq (n .bin ∷ n .cfg ∷ []) out 0 h
 
 -- and the words of a line
 module _ (words : List ℕ) (room : lineWords ≤ length words) where

@@ -20,6 +20,11 @@ shortBuffer = 255
 unfoldable pub successWord : ℕ → ℕ → ℕ
 successWord kind value = kind * 0x100000000 + value
 
+-- a count as a result: "2^32 + number of records", "2^32 + number of mapping lines"
+abbrev pub countedWord : Report ℕ → ℕ
+countedWord (refused n) = n
+countedWord (answered n) = successWord 1 n
+
 -- a refusal is document 01's number, and a step's kinds are its numbers 3, 4 and 5
 abbrev pub answerWord : Report StepDone → ℕ
 answerWord (refused n) = n

@@ -10,6 +10,7 @@ use Rattle.cp1610.specs.Call.{resetCall, stepCall, runCall}
 use Rattle.cp1610.specs.MeterCall.{waitCall, regionCall}
 use Rattle.cp1610.specs.ListingCall.{listCall, assembleCall}
 use Rattle.cp1610.specs.ImageCall.{loadCall, writeCall}
+use Rattle.cp1610.specs.PairCall.{loadPairCall, writePairCall}
 
 -- the functions of the table, with their arguments in its order
 pub data Call : Type 0 where
@@ -22,9 +23,11 @@ pub data Call : Type 0 where
   cp1610-assemble : (line : List ℕ) (d : ℕ) (words : List ℕ) → Call
   cp1610-load : (board : ℕ) (mem file : List ℕ) → Call
   cp1610-write : (board : ℕ) (mem : List ℕ) (first last : ℕ) (room : List ℕ) → Call
+  cp1610-load-pair : (mem bin cfg : List ℕ) → Call
+  cp1610-write-pair : (mem : List ℕ) (first last : ℕ) (bin cfg out : List ℕ) → Call
 
--- all that it leaves: each function's contract says that it leaves this. What decodes sees the caller's words on the board of its map; the two calls of
--- image files see the words.
+-- all that it leaves: each function's contract says that it leaves this. What decodes sees the caller's words on the board of its map; the calls of
+-- files see the words.
 abbrev pub callOf : Call → Called
 callOf (cp1610-reset state) = callBy (resetCall state)
 callOf (cp1610-step state mem map lines) = callBy (stepCall state map (onMap map mem) lines)
@@ -35,6 +38,8 @@ callOf (cp1610-list mem map address d text out) = callBy (listCall map (onMap ma
 callOf (cp1610-assemble line d words) = callBy (assembleCall line d words)
 callOf (cp1610-load board mem file) = callBy (loadCall board mem file)
 callOf (cp1610-write board mem first last room) = callBy (writeCall board mem first last room)
+callOf (cp1610-load-pair mem bin cfg) = callBy (loadPairCall mem bin cfg)
+callOf (cp1610-write-pair mem first last bin cfg out) = callBy (writePairCall mem first last bin cfg out)
 
 -- the table's arguments that are marked `mut`
 abbrev pub lentTo : Call → List Lent
@@ -47,6 +52,8 @@ lentTo (cp1610-list mem map address d text out) = items text ∷ items out ∷ [
 lentTo (cp1610-assemble line d words) = items words ∷ []
 lentTo (cp1610-load board mem file) = items mem ∷ []
 lentTo (cp1610-write board mem first last room) = items room ∷ []
+lentTo (cp1610-load-pair mem bin cfg) = items mem ∷ []
+lentTo (cp1610-write-pair mem first last bin cfg out) = items bin ∷ items cfg ∷ items out ∷ []
 
 -- "A refused call alters nothing at all: not the state, its words 8 to 17 included, not memory, not `out`, not `text`, not `words`,
 -- not the room."

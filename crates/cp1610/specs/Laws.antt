@@ -19,6 +19,7 @@ use Rattle.cp1610.specs.Answers.{runLength}
 use Rattle.cp1610.specs.Call.{stepCall}
 use Rattle.cp1610.specs.MeterCall.{regionLength}
 use Rattle.cp1610.specs.ListingCall.{lineWords, listLength}
+use Rattle.cp1610.specs.PairCall.{pairLength}
 use Rattle.cp1610.specs.Calls.{
   Call,
   cp1610-reset,
@@ -28,6 +29,7 @@ use Rattle.cp1610.specs.Calls.{
   cp1610-region,
   cp1610-list,
   cp1610-assemble,
+  cp1610-write-pair,
   callOf,
 }
 use Rattle.cp1610.specs.Read.{itemsIn, memoryIn, readStep, readListing, answerTo, readBack, WellLent}
@@ -69,6 +71,7 @@ pub record ShortestAreWellLent : Type 0 where
   pub region : (mem : List ℕ) (first last limit : ℕ) → WellLent (cp1610-region mem [] first last limit (replicate regionLength 0))
   pub list : (mem : List ℕ) (address d : ℕ) (text : List ℕ) → WellLent (cp1610-list mem [] address d text (replicate listLength 0))
   pub assemble : (line : List ℕ) (d : ℕ) → WellLent (cp1610-assemble line d (replicate lineWords 0))
+  pub write-pair : (mem : List ℕ) (first last : ℕ) (bin cfg : List ℕ) → WellLent (cp1610-write-pair mem first last bin cfg (replicate pairLength 0))
 
 -- calls of a step one after the other with the same buffers, one for each of the numbers that stand for lines
 unfoldable pub callsFrom : List ℕ → List ℕ → Bus → List ℕ → List Called

@@ -6,6 +6,7 @@ pub mod Called
 pub mod Call
 pub mod MeterCall
 pub mod ImageCall
+pub mod PairCall
 pub mod ListingCall
 pub mod Calls
 pub mod Read

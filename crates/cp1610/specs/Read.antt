@@ -19,12 +19,16 @@ use Rattle.listing.specs.Assemble.{assembleOf}
 use Rattle.records.specs.Loading.{Loading}
 use Rattle.image.specs.Load.{loadOf}
 use Rattle.image.specs.Write.{Writing, writeOf}
+use Rattle.pair.specs.Load.{loadPairOf}
+use Rattle.pair.specs.Answer.{PairLengths}
+use Rattle.pair.specs.Write.{PairWriting, writePairOf}
 use Rattle.cp1610.specs.Words.{stateLength, isSet, unpacked, linesOf}
 use Rattle.cp1610.specs.MapWords.{isMap, onMap}
 use Rattle.cp1610.specs.Answers.{isRefusal, runLength}
 use Rattle.cp1610.specs.Called.{Lent, items, memory, Called}
 use Rattle.cp1610.specs.MeterCall.{regionLength}
 use Rattle.cp1610.specs.ListingCall.{lineWords, listLength}
+use Rattle.cp1610.specs.PairCall.{pairLength}
 use Rattle.cp1610.specs.Calls.{
   Call,
   cp1610-reset,
@@ -36,6 +40,8 @@ use Rattle.cp1610.specs.Calls.{
   cp1610-assemble,
   cp1610-load,
   cp1610-write,
+  cp1610-load-pair,
+  cp1610-write-pair,
 }
 
 -- the items and the bus of what is lent
@@ -61,7 +67,7 @@ kindIn c = c .result / 0x100000000
 abbrev pub valueIn : Called → ℕ
 valueIn c = c .result % 0x100000000
 
--- "2^32 + number of records", "2^32 + length"
+-- "2^32 + number of records", "2^32 + length", "2^32 + number of mapping lines"
 abbrev pub countIn : Called → ℕ
 countIn c = c .result - 0x100000000
 
@@ -123,6 +129,15 @@ readLoading c = record { answer = readReport countIn c; memory = itemsIn c 0 }
 abbrev pub readWriting : Called → Writing
 readWriting c = record { answer = readReport countIn c; room = itemsIn c 0 }
 
+-- "out = bytes of the flat file, bytes of the text"
+abbrev pub readPairLengths : Called → PairLengths
+readPairLengths c =
+    let out : ℕ → ℕ = λ n. getD (itemsIn c 2) n 0 in
+    record { bin = out 0; cfg = out 1 }
+
+abbrev pub readPairWriting : Called → PairWriting
+readPairWriting c = record { answer = readReport readPairLengths c; bin = itemsIn c 0; cfg = itemsIn c 1 }
+
 -- what document 01 answers to a call: of what type, and what
 abbrev pub AnswerTo : Call → Type 0
 AnswerTo (cp1610-reset state) = Report Machine
@@ -134,6 +149,8 @@ AnswerTo (cp1610-list mem map address d text out) = Disassembly
 AnswerTo (cp1610-assemble line d words) = Report (List ℕ)
 AnswerTo (cp1610-load board mem file) = Loading
 AnswerTo (cp1610-write board mem first last room) = Writing
+AnswerTo (cp1610-load-pair mem bin cfg) = Loading
+AnswerTo (cp1610-write-pair mem first last bin cfg out) = PairWriting
 
 abbrev pub answerTo : (c : Call) → AnswerTo c
 answerTo (cp1610-reset state) = answered resetMachine
@@ -145,6 +162,8 @@ answerTo (cp1610-list mem map address d text out) = disassembleOf (onMap map mem
 answerTo (cp1610-assemble line d words) = assembleOf line (isSet d)
 answerTo (cp1610-load board mem file) = loadOf board mem file
 answerTo (cp1610-write board mem first last room) = writeOf board mem first last room
+answerTo (cp1610-load-pair mem bin cfg) = loadPairOf mem bin cfg
+answerTo (cp1610-write-pair mem first last bin cfg out) = writePairOf mem first last bin cfg
 
 -- how a caller reads it
 abbrev pub readBack : (c : Call) → Called → AnswerTo c
@@ -157,6 +176,8 @@ readBack (cp1610-list mem map address d text out) = readListing
 readBack (cp1610-assemble line d words) = readReport readAssembled
 readBack (cp1610-load board mem file) = readLoading
 readBack (cp1610-write board mem first last room) = readWriting
+readBack (cp1610-load-pair mem bin cfg) = readLoading
+readBack (cp1610-write-pair mem first last bin cfg out) = readPairWriting
 
 -- what a caller has to see to: buffers as long as the table says, and words that are a map; an address has 16 bits by its type
 abbrev pub WellLent : Call → Type 0
@@ -169,3 +190,5 @@ WellLent (cp1610-list mem map address d text out) = (listLength ≤ length out) 
 WellLent (cp1610-assemble line d words) = lineWords ≤ length words
 WellLent (cp1610-load board mem file) = Unit
 WellLent (cp1610-write board mem first last room) = Unit
+WellLent (cp1610-load-pair mem bin cfg) = Unit
+WellLent (cp1610-write-pair mem first last bin cfg out) = pairLength ≤ length out

@@ -15,11 +15,13 @@ ghost use Rattle.cp1610.specs.Calls.{
   cp1610-assemble,
   cp1610-load,
   cp1610-write,
+  cp1610-load-pair,
+  cp1610-write-pair,
 };
 use image::WriteAnswer;
 use listing::Listing;
 use meter::RegionAnswer;
-use records::LoadAnswer;
+use pair::PairAnswer;
 use run::RunAnswer;
 
 mod answers;
@@ -211,11 +213,7 @@ pub extern "C" fn cp1610_load(board: u16, mem: &mut [u16], file: &[u8]) -> u64
     ensures { λ r. ⌜ called r (items (now (mem .exit)) ∷ [])
         ≡ callOf (cp1610-load board (now (mem .entry)) (now (file .entry))) ⌝ }
 {
-    let answer = image::load(board, mem, file);
-    match answer {
-        LoadAnswer::Refused(refusal) => refusal::number(refusal) as u64,
-        LoadAnswer::Loaded(records) => answers::counted(records),
-    }
+    answers::load_word(image::load(board, mem, file))
 }
 
 // Writes an image file.
@@ -234,5 +232,43 @@ pub extern "C" fn cp1610_write(
     match answer {
         WriteAnswer::Refused(refusal) => refusal::number(refusal) as u64,
         WriteAnswer::Written(bytes) => answers::counted(bytes),
+    }
+}
+
+// Reads a pair of a flat file and a mapping text.
+#[no_mangle]
+pub extern "C" fn cp1610_load_pair(mem: &mut [u16], bin: &[u8], cfg: &[u8]) -> u64
+    ensures { λ r. ⌜ called r (items (now (mem .exit)) ∷ [])
+        ≡ callOf (cp1610-load-pair (now (mem .entry)) (now (bin .entry)) (now (cfg .entry))) ⌝ }
+{
+    answers::load_word(pair::load_pair(mem, bin, cfg))
+}
+
+// Writes a pair. `out` is written only once it is known that the writing was not refused.
+#[no_mangle]
+pub extern "C" fn cp1610_write_pair(
+    mem: &[u16],
+    first: u16,
+    last: u16,
+    bin: &mut [u8],
+    cfg: &mut [u8],
+    out: &mut [u32],
+) -> u64
+    ensures { λ r. ⌜ called r (items (now (bin .exit)) ∷ items (now (cfg .exit)) ∷ items (now (out .exit)) ∷ [])
+        ≡ callOf (cp1610-write-pair (now (mem .entry)) first last (now (bin .entry)) (now (cfg .entry)) (now (out .entry))) ⌝ }
+{
+    if out.len() < answers::PAIR_LENGTH {
+        return answers::SHORT_BUFFER;
+    }
+    let answer = pair::write_pair(mem, first, last, bin, cfg);
+    match answer {
+        PairAnswer::Refused(refusal) => refusal::number(refusal) as u64,
+        PairAnswer::Written {
+            bin: file,
+            cfg: text,
+        } => {
+            answers::put_lengths(out, file as u32, text as u32);
+            answers::success(answers::DONE, 0)
+        }
     }
 }

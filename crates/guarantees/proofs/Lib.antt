@@ -1,7 +1,8 @@
--- Demand 3. `Instances` depends on none of the others.
+-- Demand 3, all-RAM, and pairs. `Instances` depends on none of the others.
 pub mod Instances
 pub mod GrantLaws
 pub mod StepLaws
 pub mod FollowLaws
 pub mod Demand
 pub mod AllRam
+pub mod Pairs

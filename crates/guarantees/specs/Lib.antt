@@ -1,8 +1,10 @@
 -- Demand 3, the processor and the wait meter together. Read Grants and Unstored, the demand's words, then Demand. Instances shows that its
--- premises are met, and Laws that its words mean what they should. AllRam says that document 01's board is still there.
+-- premises are met, and Laws that its words mean what they should. AllRam says that document 01's board is still there,
+-- and Pairs that both file forms say the same.
 pub mod Grants
 pub mod Unstored
 pub mod Demand
 pub mod Instances
 pub mod Laws
 pub mod AllRam
+pub mod Pairs

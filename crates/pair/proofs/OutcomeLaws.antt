@@ -1,7 +1,7 @@
 -- What can come of a reading and of a writing: each way of the definitions is a refusal, or answers small numbers.
 use Prim.Native.Nat.{ℕ, zero, suc, _≤_}
 use mathlib.Core.Path.{_≡_, refl, sym, ap, _∙_}
-use mathlib.Core.Bool.{Bool, true, false, _||_}
+use mathlib.Core.Bool.{Bool, true, false, cond, _||_}
 use mathlib.Core.List.{List, [], _∷_}
 use mathlib.Core.Logic.{_⊎_, inl, inr}
 use native.Mathlib.Omega.{arith}
@@ -13,13 +13,18 @@ use Rattle.refusal.specs.declared.Refusal.the-variants.{MemoryTooLong, PastMemo
 use Rattle.refusal.specs.Report.{answered}
 use Rattle.refusal.proofs.ReportLaws.{no-answer, same-answer, same-refusal}
 use Rattle.memory.specs.Memory.{tooLong}
+use Rattle.memory.specs.declared.Admission.{Admission}
+use Rattle.memory.specs.declared.Admission.the-variants.{Admitted, Barred}
+use Rattle.memory.specs.Bus.{unlessBarred}
 use Rattle.memory.proofs.BusLaws.{unless-both}
 use Rattle.word.proofs.Choice.{cond-both, cond-either}
 use Rattle.text.proofs.Tests.{clash}
 use Rattle.bigendian.specs.Numbers.{allWords, bytesOf}
-use Rattle.records.specs.Records.{allWithin}
+use Rattle.bigendian.proofs.NumberLaws.{bytes-length}
+use Rattle.records.specs.Records.{allWithin, overwrite}
 use Rattle.records.specs.Region.{spanOf, wordsBetween, regionAdmission}
 use Rattle.records.specs.Loading.{RefusesOrLoads}
+use Rattle.records.proofs.LoadLaws.{Region, admitted-region, region-length}
 use Rattle.pair.specs.declared.PairAnswer.the-variants.{Refused, Written}
 use Rattle.pair.specs.declared.line.Mapping.{Mapping}
 use Rattle.pair.specs.declared.line.Front.{Front}
@@ -29,8 +34,9 @@ use Rattle.pair.specs.Read.{startsWith, frontOf, Lines, listed, malforme
 use Rattle.pair.specs.Load.{recordsOf, hasItsWords, linesTested, loadPairOf}
 use Rattle.pair.specs.Answer.{PairLengths, PairAnswersApart}
 use Rattle.pair.specs.Write.{textFor, PairWriting, refusePair, writingPair, writePairOf}
-use Rattle.pair.specs.Laws.{PairRefusesOrLoads, PairRefusesOrWrites}
+use Rattle.pair.specs.Laws.{PairRefusesOrLoads, PairRefusesOrWrites, RightLengths, AnswersLengths}
 use Rattle.pair.proofs.LoadLaws.{records-count}
+use Rattle.pair.proofs.WriteLaws.{text-length}
 
 pub pair-answers-apart : PairAnswersApart
 pair-answers-apart (Refused a) (Refused b) e = ap Refused (same-refusal a b e)
@@ -101,3 +107,31 @@ pair-refuses-or-writes m first last bin cfg =
     unless-both (WriteEnds bin cfg) (regionAdmission m first last) (λ r. inl (r, refl))
     (cond-either (WriteEnds bin cfg) (b || c) (λ e. inl (RoomTooSmall, refl))
     (λ e. let n = or-false b c e in inr (_, (refl, ltb-false (length bin) (length file) (n .0), ltb-false (length cfg) (length text) (n .1)))))
+
+pub answers-lengths : AnswersLengths
+unfolding writePairOf writingPair
+answers-lengths m first last bin cfg n = go (regionAdmission m first last) refl (ltb (length bin) (length file) || ltb (length cfg) (length text))
+  where
+    file : List ℕ
+    file = bytesOf (wordsBetween m first last)
+
+    text : List ℕ
+    text = textFor first (spanOf first last)
+
+    go : (a : Admission) → regionAdmission m first last ≡ a → (t : Bool)
+        → unlessBarred a (refusePair bin cfg)
+        (cond t (refusePair bin cfg RoomTooSmall) (record { answer = answered (record { bin = length file; cfg = length text }); bin = overwrite bin 0 file; cfg = overwrite cfg 0 text }))
+        .answer ≡ answered n → RightLengths first last n
+    go (Barred r) a t e = no-answer e
+    go Admitted a true e = no-answer e
+    go Admitted a false e =
+        let r = admitted-region m first last a in
+        let o = r .ordered in
+        let l = region-length m first last o (r .within) in
+        let b = ap (λ (x : PairLengths). x .bin) (same-answer e) in
+        let c = ap (λ (x : PairLengths). x .cfg) (same-answer e) in
+        record {
+          bin = omega (arith, bytes-length (wordsBetween m first last));
+          cfg = sym c ∙ text-length first (spanOf first last);
+          few = omega (arith, r .small, r .within);
+        }

@@ -157,7 +157,7 @@ module _ (m bin : List ℕ) (ms : List Mapping) where
 
 -- the reader past the memory's length
 module _ (m bin cfg : List ℕ) where
-  pub by-lines : length m ≤ 65536 → loadPairOf m bin cfg ≡ linesTested m bin (mappingsOf cfg)
+  by-lines : length m ≤ 65536 → loadPairOf m bin cfg ≡ linesTested m bin (mappingsOf cfg)
   unfolding loadPairOf
   by-lines h = cond-false _ _ (le-ltb 65536 (length m) h)
 

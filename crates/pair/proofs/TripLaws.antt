@@ -20,16 +20,16 @@ use Rattle.bigendian.specs.Numbers.{allWords, bytesOf}
 use Rattle.bigendian.proofs.NumberLaws.{bytes-length, number-laws}
 use Rattle.records.specs.Records.{isWithin, overwrite}
 use Rattle.records.specs.Region.{spanOf, wordsBetween, regionAdmission}
-use Rattle.records.specs.Loading.{Loading, refuseLoad, PutBack}
+use Rattle.records.specs.Loading.{refuseLoad}
 use Rattle.records.proofs.LoadLaws.{Region, admitted-region, region-length, region-within, region-back}
 use Rattle.pair.specs.declared.line.Mapping.{Mapping}
 use Rattle.pair.specs.Format.{mapping, textOf}
 use Rattle.pair.specs.Read.{listed, mappingsOf}
-use Rattle.pair.specs.Load.{targetsTested, linesTested, loadPairOf}
+use Rattle.pair.specs.Load.{linesTested, loadPairOf}
 use Rattle.pair.specs.Answer.{PairLengths}
 use Rattle.pair.specs.Write.{textFor, refusePair, writingPair, writePairOf}
-use Rattle.pair.specs.Laws.{InDigits, WrittenPair, PairRoundTrip}
-use Rattle.pair.proofs.TextLaws.{text-mappings, by-lines}
+use Rattle.pair.specs.Laws.{InDigits, WrittenPair, PairLays, PairRoundTrip}
+use Rattle.pair.proofs.TextLaws.{text-mappings}
 
 -- a test made of another
 one-test : {A : Type 0} (x y : A) (t : Bool) → cond (cond t true false) x y ≡ cond t x y
@@ -37,10 +37,10 @@ one-test x y true = refl
 one-test x y false = refl
 
 -- What a written pair is.
-pub record MadePair (m : List ℕ) (first last : ℕ) (file text : List ℕ) : Type 0 where
-  pub region : Region m first last
-  pub file-is : file ≡ bytesOf (wordsBetween m first last)
-  pub text-is : text ≡ textFor first (spanOf first last)
+record MadePair (m : List ℕ) (first last : ℕ) (file text : List ℕ) : Type 0 where
+  region : Region m first last
+  file-is : file ≡ bytesOf (wordsBetween m first last)
+  text-is : text ≡ textFor first (spanOf first last)
 
 -- the bytes at the front of a room that a file was laid over
 front-of : (room file front : List ℕ) → length file ≡ length front → take (length front) (overwrite room 0 file) ≡ front → front ≡ file
@@ -87,7 +87,7 @@ module _ (m : List ℕ) (first last : ℕ) (file text bin cfg : List ℕ) where
       go Admitted h e f g = let k = written-fits e f g in record { region = admitted-region m first last h; file-is = k .0; text-is = k .1 }
       go (Barred r) h e f g = no-answer e
 
-pub made-pair : {m : List ℕ} {first last : ℕ} {file text : List ℕ} → WrittenPair m first last file text → MadePair m first last file text
+made-pair : {m : List ℕ} {first last : ℕ} {file text : List ℕ} → WrittenPair m first last file text → MadePair m first last file text
 made-pair {m} {first} {last} {file} {text} k = made m first last file text (k .bin) (k .cfg) (k .answer) (k .file-bytes) (k .text-bytes)
 
 -- Loading such a pair into any memory: the region's words are laid over it, unless it is too long or too short.
@@ -110,12 +110,12 @@ module _ {m : List ℕ} {first last : ℕ} {file text : List ℕ} (k : MadePair 
   unfolding textFor whole
   text-read = ap mappingsOf (k .text-is) ∙ text-mappings (mapping whole ∷ []) (whole-good, tt)
 
-  pub load-made : (n : List ℕ) → length n ≤ 65536
-      → loadPairOf n file text
+  lines-made : (n : List ℕ)
+      → linesTested n file (mappingsOf text)
       ≡ cond (isWithin (length n) first (length (wordsBetween m first last)))
       (record { answer = answered 1; memory = overwrite n first (wordsBetween m first last) }) (refuseLoad n PastMemory)
   unfolding whole
-  load-made n h =
+  lines-made n =
       let ws = wordsBetween m first last in
       let l = words-length in
       let o = k .region .ordered in
@@ -125,13 +125,18 @@ module _ {m : List ℕ} {first last : ℕ} {file text : List ℕ} (k : MadePair 
       let t : spanOf first last - 1 < spanOf first last = omega arith in
       let z : spanOf first last - 1 + 1 - 0 ≡ spanOf first last = omega arith in
       let a = rw d at (number-laws .all-back ws) in
-      by-lines n file text h ∙ rw (text-read, k .file-is, eq-eqb _ _ e, d, lt-ltb _ _ t, z, a, take-all (spanOf first last) ws (omega arith)) (
+      rw (text-read, k .file-is, eq-eqb _ _ e, d, lt-ltb _ _ t, z, a, take-all (spanOf first last) ws (omega arith)) (
       one-test (record { answer = answered 1; memory = overwrite n first ws }) (refuseLoad n PastMemory) (isWithin (length n) first (length ws)))
+
+pub pair-lays : PairLays
+unfolding loadPairOf
+pair-lays m first last file text k n = ap (cond (tooLong n) (refuseLoad n MemoryTooLong)) (lines-made (made-pair k) n)
 
 -- "read again puts exactly that region back"
 pub pair-round-trip : PairRoundTrip
 pair-round-trip m first last file text k n h l =
-    let p = made-pair k in
-    let o = p .region .ordered in
-    let w = p .region .within in
-    rw (load-made p n h ∙ cond-true _ _ (region-within m first last o w (length n) l)) (region-back m first last o w 1 n l)
+    let p = made-pair k .region in
+    rw (pair-lays m first last file text k n
+    ∙ cond-false _ _ (le-ltb 65536 (length n) h)
+    ∙ cond-true _ _ (region-within m first last (p .ordered) (p .within) (length n) l))
+    (region-back m first last (p .ordered) (p .within) 1 n l)

@@ -1,5 +1,5 @@
 -- What holds of every mapping text and of every pair. Statements; the proofs are in proofs/.
-use Prim.Native.Nat.{ℕ, _<_, _≤_}
+use Prim.Native.Nat.{ℕ, _*_, _<_, _≤_}
 use mathlib.Core.Path.{_≡_}
 use mathlib.Core.Bool.{cond}
 use mathlib.Core.Logic.{_⊎_}
@@ -8,7 +8,8 @@ use lib.Dec.{eqb}
 use lib.ListN.{length, take}
 use Rattle.refusal.specs.declared.Refusal.{Refusal}
 use Rattle.refusal.specs.Report.{refused, answered}
-use Rattle.records.specs.Loading.{RefusesOrLoads, PutBack}
+use Rattle.records.specs.Region.{spanOf, wordsBetween}
+use Rattle.records.specs.Loading.{RefusesOrLoads, laying, PutBack}
 use Rattle.pair.specs.declared.line.Mapping.{Mapping}
 use Rattle.pair.specs.Format.{mappingLine, Item, blank, mapping, itemsText, textOf, mappingsIn}
 use Rattle.pair.specs.Read.{mappingAt, frontOf, listed, follow, linesOf}
@@ -70,6 +71,14 @@ pub record WrittenPair (m : List ℕ) (first last : ℕ) (file text : List ℕ) 
   pub file-bytes : take (length file) (writePairOf m first last bin cfg .bin) ≡ file
   pub text-bytes : take (length text) (writePairOf m first last bin cfg .cfg) ≡ text
 
+-- a written pair is one mapping line: read into any memory, it lays the region's words there, or is refused by 1 or 11
+abbrev pub PairLays : Type 0
+PairLays =
+    (m : List ℕ) (first last : ℕ) (file text : List ℕ) →
+    WrittenPair m first last file text →
+    (n : List ℕ) →
+    loadPairOf n file text ≡ laying 1 n first (wordsBetween m first last)
+
 -- "read again puts exactly that region back": into any memory of at most 65,536 words that holds the region, by one mapping line
 abbrev pub PairRoundTrip : Type 0
 PairRoundTrip =
@@ -91,3 +100,15 @@ PairRefusesOrWrites =
     ((r : Refusal) × (writePairOf m first last bin cfg ≡ refusePair bin cfg r))
     ⊎ ((n : PairLengths)
     × ((writePairOf m first last bin cfg .answer ≡ answered n) × (n .bin ≤ length bin) × (n .cfg ≤ length cfg)))
+
+-- "it answers both lengths": two bytes for each word of the region, and a text of 32
+pub record RightLengths (first last : ℕ) (n : PairLengths) : Type 0 where
+  pub bin : n .bin ≡ spanOf first last * 2
+  pub cfg : n .cfg ≡ 32
+  pub few : spanOf first last ≤ 65536
+
+abbrev pub AnswersLengths : Type 0
+AnswersLengths =
+    (m : List ℕ) (first last : ℕ) (bin cfg : List ℕ) (n : PairLengths) →
+    writePairOf m first last bin cfg .answer ≡ answered n →
+    RightLengths first last n
