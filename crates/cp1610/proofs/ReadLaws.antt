@@ -213,7 +213,6 @@ reads-the-answer (cp1610-load board mem file) h =
     read-counted (λ r m. record { answer = r; memory = m }) _ _ _ _ (told-loading board mem file refl)
 reads-the-answer (cp1610-write board mem first last room) h =
     read-counted (λ r left. record { answer = r; room = left }) _ _ _ _ (told-writing board mem first last room refl)
-
 reads-the-answer (cp1610-load-pair mem bin cfg) h =
     read-counted (λ r m. record { answer = r; memory = m }) _ _ _ _ (told-pair-loading mem bin cfg refl)
 reads-the-answer (cp1610-write-pair mem first last bin cfg out) h = read-pair mem first last bin cfg out h

@@ -2,12 +2,14 @@
 use Prim.Native.Nat.{ℕ}
 use mathlib.Core.Path.{_≡_}
 use mathlib.Core.Logic.{_⊎_}
-use mathlib.Core.List.{List}
+use mathlib.Core.List.{List, [], _∷_}
 use Rattle.refusal.specs.Report.{refused}
+use Rattle.text.specs.Text.{codes}
 use Rattle.records.specs.Loading.{LoadedAlike}
 use Rattle.image.specs.Format.{recordLimit, idHead}
 use Rattle.image.specs.Load.{loadOf}
 use Rattle.image.specs.Laws.{WrittenFile}
+use Rattle.image.specs.Examples.{exampleFile, exampleMemory}
 use Rattle.pair.specs.Load.{loadPairOf}
 use Rattle.pair.specs.Laws.{WrittenPair}
 
@@ -24,3 +26,8 @@ PairIsImage =
     WrittenPair m first last file text →
     (n : List ℕ) →
     SaysTheSame board image file text n
+
+-- both premises can be met at once: document 01's example file, and the pair of the same region
+pub record BothWritten : Type 0 where
+  pub image : WrittenFile (idHead 2) recordLimit exampleMemory 0x0010 0x0010 exampleFile
+  pub pair : WrittenPair exampleMemory 0x0010 0x0010 (0x00 ∷ 0x34 ∷ []) (codes "[mapping]\n$0000 - $0000 = $0010\n")

@@ -10,12 +10,12 @@ use lib.Dec.{eqb, leb}
 use lib.ListN.{length, getD, drop, length-append}
 use lib.Seq.{drop-cons, drop-length}
 use borrow.Author.Tests.{eq-eqb, ne-eqb, eqb-true, lt-leb, le-leb}
-use Rattle.text.specs.Text.{digitOf, hexOf, digitValue}
+use Rattle.text.specs.Text.{digitOf, hexOf, digitValue, lineFeed}
 use Rattle.text.proofs.Digits.{digit-laws}
 use Rattle.text.proofs.Tests.{clash, and-left, and-right}
 use Rattle.pair.specs.declared.line.Mapping.{Mapping}
 use Rattle.pair.specs.declared.line.Front.the-variants.{Blank, Line, Malformed}
-use Rattle.pair.specs.Format.{lineFeed, mappingLine, lineBytes}
+use Rattle.pair.specs.Format.{mappingLine, lineBytes}
 use Rattle.pair.specs.Read.{numberAt, mappingAt, startsWith, isLine, frontOf}
 
 -- a text that is too short does not begin with another

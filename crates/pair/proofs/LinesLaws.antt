@@ -12,7 +12,8 @@ use Rattle.text.proofs.Tests.{and-left, and-right}
 use Rattle.pair.specs.declared.line.Mapping.{Mapping}
 use Rattle.pair.specs.declared.line.Front.{Front}
 use Rattle.pair.specs.declared.line.Front.the-variants.{Blank, Line, Malformed}
-use Rattle.pair.specs.Format.{lineFeed, mappingLine, lineBytes}
+use Rattle.text.specs.Text.{lineFeed}
+use Rattle.pair.specs.Format.{mappingLine, lineBytes}
 use Rattle.pair.specs.Read.{mappingAt, startsWith, isLine, frontOf, Lines, listed, malformed, withMapping, follow, linesFrom, linesOf}
 use Rattle.pair.specs.Laws.{LinesEquation}
 use Rattle.pair.proofs.FrontLaws.{starts-is, line-length}

@@ -11,7 +11,8 @@ use Rattle.pair.specs.declared.line.Mapping.{Mapping}
 use Rattle.pair.specs.declared.line.Front.{Front}
 use Rattle.pair.specs.declared.line.Front.the-variants.{Blank, Line, Malformed as MalformedFront}
 use Rattle.pair.specs.declared.check.Checked.the-variants.{Listed, Malformed}
-use Rattle.pair.specs.Format.{lineFeed, lineBytes}
+use Rattle.text.specs.Text.{lineFeed}
+use Rattle.pair.specs.Format.{lineBytes}
 use Rattle.pair.specs.Read.{mappingAt, frontOf, Lines, listed, malformed, withMapping, follow, linesOf}
 use Rattle.pair.specs.inner.Pass.{fileEnd, targetEnd, fileEnds, targetEnds, summary, Fits, placedLines}
 use Rattle.pair.proofs.LinesLaws.{LineShown, line-shown, lines-end, lines-on}

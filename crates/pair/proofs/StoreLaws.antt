@@ -20,7 +20,8 @@ use Rattle.records.proofs.PlacedLaws.{split}
 use Rattle.pair.specs.declared.line.Mapping.{Mapping}
 use Rattle.pair.specs.declared.line.Front.{Front}
 use Rattle.pair.specs.declared.line.Front.the-variants.{Blank, Line, Malformed}
-use Rattle.pair.specs.Format.{lineFeed, lineBytes}
+use Rattle.text.specs.Text.{lineFeed}
+use Rattle.pair.specs.Format.{lineBytes}
 use Rattle.pair.specs.Read.{mappingAt, isLine, frontOf, Lines, listed, malformed, withMapping, follow, linesOf}
 use Rattle.pair.specs.Load.{recordsOf, areThere}
 use Rattle.pair.specs.inner.Pass.{targetEnd, Fits, placedLines}

@@ -13,7 +13,7 @@ use Rattle.refusal.specs.Report.{Report, refused, answered}
 use Rattle.refusal.proofs.ReportLaws.{no-answer, same-answer}
 use Rattle.memory.specs.Memory.{tooLong}
 use Rattle.word.proofs.Choice.{cond-true, cond-false}
-use Rattle.text.specs.Text.{digitOf, hexOf, digitValue}
+use Rattle.text.specs.Text.{digitOf, hexOf, digitValue, lineFeed}
 use Rattle.text.proofs.Digits.{digit-laws}
 use Rattle.bigendian.specs.Numbers.{allWords}
 use Rattle.records.specs.Records.{allWithin}
@@ -21,7 +21,7 @@ use Rattle.records.specs.Loading.{refuseLoad, acceptLoad}
 use Rattle.pair.specs.declared.line.Mapping.{Mapping}
 use Rattle.pair.specs.declared.line.Front.{Front}
 use Rattle.pair.specs.declared.line.Front.the-variants.{Blank, Line, Malformed}
-use Rattle.pair.specs.Format.{headLine, lineFeed, mappingLine, lineBytes, Item, blank, mapping, itemText, itemsText, textOf, mappingsIn}
+use Rattle.pair.specs.Format.{headLine, mappingLine, lineBytes, Item, blank, mapping, itemText, itemsText, textOf, mappingsIn}
 use Rattle.pair.specs.Read.{numberAt, mappingAt, startsWith, frontOf, Lines, listed, malformed, withMapping, follow, linesOf, mappingsOf}
 use Rattle.pair.specs.Load.{recordsOf, hasItsWords, targetsTested, linesTested, loadPairOf}
 use Rattle.pair.specs.Laws.{InDigits, ReadsPrinted, GoodItem, GoodItems, GoodText, TakesTexts}

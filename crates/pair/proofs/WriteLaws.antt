@@ -21,7 +21,7 @@ use Rattle.records.specs.Region.{spanOf, wordsBetween, regionAdmission}
 use Rattle.records.proofs.OverLaws.{overwrite-sets}
 use Rattle.records.proofs.LoadLaws.{Region, admitted-region, region-length}
 use Rattle.pair.specs.declared.line.Mapping.{Mapping}
-use Rattle.pair.specs.Format.{headLine, mappingLine}
+use Rattle.pair.specs.Format.{headLine, mappingLine, textBytes}
 use Rattle.pair.specs.Write.{textFor, PairWriting, refusePair, writingPair, writePairOf}
 use Rattle.pair.proofs.FrontLaws.{line-length}
 
@@ -33,7 +33,7 @@ pub text-is : (first words : ℕ) → textFor first words ≡ headLine ++ mappin
 unfolding textFor
 text-is first words = ap (λ (l : List ℕ). headLine ++ l) (append-nil (mappingLine (whole first words)))
 
-pub text-length : (first words : ℕ) → length (textFor first words) ≡ 32
+pub text-length : (first words : ℕ) → length (textFor first words) ≡ textBytes
 text-length first words = omega (arith, ap length (text-is first words), length-append headLine (mappingLine (whole first words)), line-length (whole first words))
 
 -- two pieces put one behind the other at the front of a room: the second into what the first left
@@ -49,7 +49,7 @@ pieces-put d xs ys h {c} {p} e f =
     let l : 0 + length (xs ++ ys) ≡ length xs + length ys = omega (arith, length-append xs ys) in
     rw (t, z, append-nil, q, l) (sym (append-assoc xs ys (drop (length xs + length ys) d)))
 
-pub text-put : (d : List ℕ) (first words : ℕ) (line : List ℕ) → line ≡ mappingLine (whole first words) → 32 ≤ length d → {c p : List ℕ}
+pub text-put : (d : List ℕ) (first words : ℕ) (line : List ℕ) → line ≡ mappingLine (whole first words) → textBytes ≤ length d → {c p : List ℕ}
     → c ≡ headLine ++ drop (length headLine) d → p ≡ take (length line) line ++ drop (length line) (take (length c - length headLine) (drop (length headLine) c))
     → putMid (length headLine) (length c - length headLine) c p ≡ overwrite d 0 (textFor first words)
 text-put d first words line z h {c} {p} e f =
@@ -64,7 +64,7 @@ module _ (first : ℕ) (region bin cfg : List ℕ) where
   unfolding writingPair
   bin-short h = rw (lt-ltb (length bin) (length (bytesOf region)) (omega (arith, bytes-length region)))
 
-  pub cfg-short : length region * 2 ≤ length bin → length cfg < 32 → refusePair bin cfg RoomTooSmall ≡ writingPair bin cfg (bytesOf region) (textFor first (length region))
+  pub cfg-short : length region * 2 ≤ length bin → length cfg < textBytes → refusePair bin cfg RoomTooSmall ≡ writingPair bin cfg (bytesOf region) (textFor first (length region))
   unfolding writingPair
   cfg-short h l =
       rw (
@@ -72,8 +72,8 @@ module _ (first : ℕ) (region bin cfg : List ℕ) where
         lt-ltb (length cfg) (length (textFor first (length region))) (omega (arith, text-length first (length region))),
       )
 
-  pub both-written : length region * 2 ≤ length bin → 32 ≤ length cfg → {b c : List ℕ} → b ≡ putWords bin 0 region → c ≡ overwrite cfg 0 (textFor first (length region))
-      → record { answer = answered (record { bin = length region * 2; cfg = 32 }); bin = b; cfg = c }
+  pub both-written : length region * 2 ≤ length bin → textBytes ≤ length cfg → {b c : List ℕ} → b ≡ putWords bin 0 region → c ≡ overwrite cfg 0 (textFor first (length region))
+      → record { answer = answered (record { bin = length region * 2; cfg = textBytes }); bin = b; cfg = c }
       ≡ writingPair bin cfg (bytesOf region) (textFor first (length region))
   unfolding writingPair
   both-written h l {b} {c} e f =

@@ -2,16 +2,12 @@
 -- lines and lines of just that form, four upper-case digits each, are taken."
 use Prim.Native.Nat.{ℕ}
 use mathlib.Core.List.{List, [], _∷_, _++_}
-use Prim.Native.Char.{code}
-use Rattle.text.specs.Text.{codes, hexOf}
+use Rattle.text.specs.Text.{codes, lineFeed, hexOf}
 use Rattle.pair.specs.declared.line.Mapping.{Mapping}
 
 -- "only `[mapping]` first"
 abbrev pub headLine : List ℕ
 headLine = codes "[mapping]\n"
-
-abbrev pub lineFeed : ℕ
-lineFeed = code "\n"
 
 -- "lines such as `$0000 - $0FFF = $5000`: file word range, then target address", with the line feed
 unfoldable pub mappingLine : Mapping → List ℕ
@@ -38,6 +34,10 @@ itemsText (i ∷ is) = itemText i ++ itemsText is
 -- a whole text: "`[mapping]` first", and items
 abbrev pub textOf : List Item → List ℕ
 textOf is = headLine ++ itemsText is
+
+-- the bytes of a text of one mapping
+abbrev pub textBytes : ℕ
+textBytes = 32
 
 -- the mappings among the items
 abbrev pub mappingsIn : List Item → List Mapping

@@ -11,7 +11,7 @@ use Rattle.refusal.specs.Report.{refused, answered}
 use Rattle.records.specs.Region.{spanOf, wordsBetween}
 use Rattle.records.specs.Loading.{RefusesOrLoads, laying, PutBack}
 use Rattle.pair.specs.declared.line.Mapping.{Mapping}
-use Rattle.pair.specs.Format.{mappingLine, Item, blank, mapping, itemsText, textOf, mappingsIn}
+use Rattle.pair.specs.Format.{mappingLine, Item, blank, mapping, textOf, textBytes, mappingsIn}
 use Rattle.pair.specs.Read.{mappingAt, frontOf, listed, follow, linesOf}
 use Rattle.pair.specs.Load.{loadPairOf}
 use Rattle.pair.specs.Answer.{PairLengths}
@@ -101,10 +101,10 @@ PairRefusesOrWrites =
     ⊎ ((n : PairLengths)
     × ((writePairOf m first last bin cfg .answer ≡ answered n) × (n .bin ≤ length bin) × (n .cfg ≤ length cfg)))
 
--- "it answers both lengths": two bytes for each word of the region, and a text of 32
+-- "it answers both lengths": two bytes for each word of the region, and a text of one mapping
 pub record RightLengths (first last : ℕ) (n : PairLengths) : Type 0 where
   pub bin : n .bin ≡ spanOf first last * 2
-  pub cfg : n .cfg ≡ 32
+  pub cfg : n .cfg ≡ textBytes
   pub few : spanOf first last ≤ 65536
 
 abbrev pub AnswersLengths : Type 0

@@ -5,11 +5,11 @@ use mathlib.Core.Bool.{Bool, true, false, cond, _&&_}
 use mathlib.Core.List.{List, [], _∷_}
 use lib.Dec.{eqb, leb}
 use lib.ListN.{length, getD, drop}
-use Rattle.text.specs.Text.{digitValue}
+use Rattle.text.specs.Text.{digitValue, lineFeed}
 use Rattle.pair.specs.declared.line.Mapping.{Mapping}
 use Rattle.pair.specs.declared.line.Front.{Front}
 use Rattle.pair.specs.declared.line.Front.the-variants.{Blank, Line, Malformed}
-use Rattle.pair.specs.Format.{headLine, lineFeed, mappingLine, lineBytes}
+use Rattle.pair.specs.Format.{headLine, mappingLine, lineBytes}
 
 -- the number whose four digits stand at a place, if digits stand there
 unfoldable pub numberAt : List ℕ → ℕ → ℕ

@@ -6,6 +6,7 @@ ghost use lib.ListN.{length};
 ghost use Rattle.records.specs.Records.{overwrite};
 ghost use Rattle.records.specs.Loading.{loaded};
 ghost use Rattle.bigendian.specs.Numbers.{bytesOf};
+ghost use Rattle.pair.specs.Format.{textBytes};
 ghost use Rattle.pair.specs.Read.{linesOf};
 ghost use Rattle.pair.specs.Load.{linesTested, loadPairOf};
 ghost use Rattle.pair.specs.Write.{textFor, writingPair, wrotePair, writePairOf};
@@ -74,7 +75,7 @@ pub fn load_pair(mem: &mut [u16], bin: &[u8], cfg: &[u8]) -> LoadAnswer
 
 // The text of a region of so many words that begins at the address `first`.
 fn put_text(first: u16, words: usize, cfg: &mut [u8])
-    requires { ⌜ (0 < words) × (words ≤ 65536) × (32 ≤ length (now cfg)) ⌝ }
+    requires { ⌜ (0 < words) × (words ≤ 65536) × (textBytes ≤ length (now cfg)) ⌝ }
     ensures { λ r. ⌜ now (cfg .exit) ≡ overwrite (now (cfg .entry)) 0 (textFor first words) ⌝ }
 {
     let head = HEAD;

@@ -4,12 +4,10 @@ use Prim.Native.Char.{code}
 use mathlib.Core.Bool.{cond}
 use mathlib.Core.List.{List, [], _∷_, _++_}
 use lib.Dec.{ltb}
+use Rattle.text.specs.Text.{lineFeed}
 
 abbrev pub space : ℕ
 space = code " "
-
-abbrev pub lineFeed : ℕ
-lineFeed = code "\n"
 
 -- "n decimal": a refusal's number has one digit or two
 unfoldable pub decimalText : ℕ → List ℕ

@@ -16,6 +16,10 @@ codesFrom (suc n) s i = code (charAt s i) ∷ codesFrom n s (suc i)
 abbrev pub codes : String → List ℕ
 codes s = codesFrom (len s) s 0
 
+-- what ends a line
+abbrev pub lineFeed : ℕ
+lineFeed = code "\n"
+
 -- "Digits are upper case": the hexadecimal digit of a value, which lies below 16
 unfoldable pub digitOf : ℕ → ℕ
 digitOf v = getD (codes "0123456789ABCDEF") v 0
