@@ -8,13 +8,13 @@ use Rattle.text.specs.Text.{digitOf, hexOf, digitValue}
 use Rattle.records.specs.Records.{overwrite}
 use Rattle.records.specs.Region.{regionAdmission}
 use Rattle.pair.specs.Format.{mappingLine, blank, mapping}
-use Rattle.pair.specs.Read.{numberAt, frontOf, linesOf, mappingsOf}
+use Rattle.pair.specs.Read.{numberAt, frontOf, mappingsBelow, mappingsOf}
 use Rattle.pair.specs.Load.{loadPairOf}
 use Rattle.pair.specs.Write.{textFor, writingPair, writePairOf}
 use Rattle.pair.specs.Examples.{DocumentPair}
 
 pub document-pair : DocumentPair
-unfolding wordAt digitOf hexOf digitValue overwrite regionAdmission mappingLine numberAt frontOf linesOf mappingsOf loadPairOf textFor writingPair writePairOf
+unfolding wordAt digitOf hexOf digitValue overwrite regionAdmission mappingLine numberAt frontOf mappingsBelow mappingsOf loadPairOf textFor writingPair writePairOf
 document-pair =
     record {
       line = refl;

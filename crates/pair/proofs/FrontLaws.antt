@@ -16,51 +16,51 @@ use Rattle.text.proofs.Tests.{clash, and-left, and-right}
 use Rattle.pair.specs.declared.line.Mapping.{Mapping}
 use Rattle.pair.specs.declared.line.Front.the-variants.{Blank, Line, Malformed}
 use Rattle.pair.specs.Format.{mappingLine, lineBytes}
-use Rattle.pair.specs.Read.{numberAt, mappingAt, startsWith, isLine, frontOf}
+use Rattle.pair.specs.Read.{numberAt, mappingAt, beginsWith, isLine, frontOf}
 
 -- a text that is too short does not begin with another
-pub starts-short : (text front : List ℕ) → length text < length front → startsWith text front ≡ false
-starts-short text [] h = absurd (omega arith)
-starts-short [] (b ∷ front) h = refl
-starts-short (a ∷ text) (b ∷ front) h = go (eqb a b) (starts-short text front (omega arith))
+pub begins-short : (text front : List ℕ) → length text < length front → beginsWith text front ≡ false
+begins-short text [] h = absurd (omega arith)
+begins-short [] (b ∷ front) h = refl
+begins-short (a ∷ text) (b ∷ front) h = go (eqb a b) (begins-short text front (omega arith))
   where
-    go : (t : Bool) → startsWith text front ≡ false → (t && startsWith text front) ≡ false
+    go : (t : Bool) → beginsWith text front ≡ false → (t && beginsWith text front) ≡ false
     go true e = e
     go false e = refl
 
 -- what a text begins with stands in it
-pub starts-is : (text front : List ℕ) → startsWith text front ≡ true → text ≡ front ++ drop (length front) text
-starts-is text [] e = refl
-starts-is [] (b ∷ front) e = clash e refl
-starts-is (a ∷ text) (b ∷ front) e =
-    let q = eqb-true a b (and-left (eqb a b) (startsWith text front) e) in
-    let t = starts-is text front (and-right (eqb a b) (startsWith text front) e) in
+pub begins-is : (text front : List ℕ) → beginsWith text front ≡ true → text ≡ front ++ drop (length front) text
+begins-is text [] e = refl
+begins-is [] (b ∷ front) e = clash e refl
+begins-is (a ∷ text) (b ∷ front) e =
+    let q = eqb-true a b (and-left (eqb a b) (beginsWith text front) e) in
+    let t = begins-is text front (and-right (eqb a b) (beginsWith text front) e) in
     cc
 
-pub starts-with : (front rest : List ℕ) → startsWith (front ++ rest) front ≡ true
-starts-with [] rest = refl
-starts-with (b ∷ front) rest = rw (eq-eqb b b refl) (starts-with front rest)
+pub begins-with : (front rest : List ℕ) → beginsWith (front ++ rest) front ≡ true
+begins-with [] rest = refl
+begins-with (b ∷ front) rest = rw (eq-eqb b b refl) (begins-with front rest)
 
 -- The loop that compares: what is left of both decides, where the first i bytes are equal.
 pub record Comparing (text front : List ℕ) (i : ℕ) : Type 0 where
   pub within : i ≤ length front
-  pub same : startsWith (drop i text) (drop i front) ≡ startsWith text front
+  pub same : beginsWith (drop i text) (drop i front) ≡ beginsWith text front
 
 pub comparing : (text front : List ℕ) → Comparing text front 0
 comparing text front = record { within = omega arith; same = refl }
 
 module _ {text front : List ℕ} {i : ℕ} (k : Comparing text front i) (fits : length front ≤ length text) where
   next : i < length front
-      → startsWith text front ≡ (eqb (getD text i 0) (getD front i 0) && startsWith (drop (suc i) text) (drop (suc i) front))
+      → beginsWith text front ≡ (eqb (getD text i 0) (getD front i 0) && beginsWith (drop (suc i) text) (drop (suc i) front))
   next h = sym (k .same) ∙ rw (drop-cons text i 0 (omega arith), drop-cons front i 0 h)
 
   pub comparing-on : i < length front → getD text i 0 ≡ getD front i 0 → Comparing text front (i + 1)
   comparing-on h e = record { within = omega arith; same = rw add-one (sym (next h ∙ rw (eq-eqb _ _ e))) }
 
-  pub comparing-differs : i < length front → (getD text i 0 ≡ getD front i 0 → ⊥) → false ≡ startsWith text front
+  pub comparing-differs : i < length front → (getD text i 0 ≡ getD front i 0 → ⊥) → false ≡ beginsWith text front
   comparing-differs h d = sym (next h ∙ rw (ne-eqb _ _ d))
 
-  pub comparing-end : length front ≤ i → true ≡ startsWith text front
+  pub comparing-end : length front ≤ i → true ≡ beginsWith text front
   comparing-end h = let e : i ≡ length front = omega (arith, k .within) in rw (e, drop-length) at (k .same)
 
 -- four digits make a number below 65,536
@@ -73,7 +73,7 @@ unfolding mappingLine hexOf
 line-length m = refl
 
 -- What stands at the front, by the code's tests.
-first-is : (b : ℕ) (text : List ℕ) → 0 < length text → startsWith text (b ∷ []) ≡ eqb (getD text 0 0) b
+first-is : (b : ℕ) (text : List ℕ) → 0 < length text → beginsWith text (b ∷ []) ≡ eqb (getD text 0 0) b
 first-is b [] h = absurd (omega arith)
 first-is b (a ∷ text) h = go (eqb a b)
   where
@@ -93,20 +93,20 @@ module _ (text : List ℕ) (some : 0 < length text) where
 
     pub front-short : length text < lineBytes → Malformed ≡ frontOf text
     front-short h =
-        sym (as-line ∙ rw (starts-short text (mappingLine (mappingAt text)) (omega (arith, line-length (mappingAt text)))))
+        sym (as-line ∙ rw (begins-short text (mappingLine (mappingAt text)) (omega (arith, line-length (mappingAt text)))))
 
     pub front-above : mappingAt text .last < mappingAt text .first → Malformed ≡ frontOf text
-    front-above h = sym (as-line ∙ rw (lt-leb _ _ h) (go (startsWith text (mappingLine (mappingAt text)))))
+    front-above h = sym (as-line ∙ rw (lt-leb _ _ h) (go (beginsWith text (mappingLine (mappingAt text)))))
       where
         go : (t : Bool) → cond (t && false) (Line (mappingAt text)) Malformed ≡ Malformed
         go true = refl
         go false = refl
 
     module _ (h : mappingAt text .first ≤ mappingAt text .last) where
-      pub front-line : startsWith text (mappingLine (mappingAt text)) ≡ true → Line (mappingAt text) ≡ frontOf text
+      pub front-line : beginsWith text (mappingLine (mappingAt text)) ≡ true → Line (mappingAt text) ≡ frontOf text
       front-line e = sym (as-line ∙ rw (e, le-leb _ _ h))
 
-      pub front-differs : startsWith text (mappingLine (mappingAt text)) ≡ false → Malformed ≡ frontOf text
+      pub front-differs : beginsWith text (mappingLine (mappingAt text)) ≡ false → Malformed ≡ frontOf text
       front-differs e = sym (as-line ∙ rw e)
 
 -- where no empty line stands at the front, a mapping's line does, or the front is malformed
@@ -118,5 +118,5 @@ front-other text some other = rw (as-line text some other) (go (isLine text (map
     go false = inr refl
 
 -- a text that begins with another is no shorter
-pub starts-length : (text front : List ℕ) → startsWith text front ≡ true → length front ≤ length text
-starts-length text front e = omega (arith, ap length (starts-is text front e), length-append front (drop (length front) text))
+pub begins-length : (text front : List ℕ) → beginsWith text front ≡ true → length front ≤ length text
+begins-length text front e = omega (arith, ap length (begins-is text front e), length-append front (drop (length front) text))

@@ -24,9 +24,9 @@ use Rattle.pair.specs.declared.line.Mapping.{Mapping}
 use Rattle.pair.specs.declared.check.Checked.{Checked}
 use Rattle.pair.specs.declared.check.Checked.the-variants.{Listed, Malformed}
 use Rattle.pair.specs.Format.{headLine}
-use Rattle.pair.specs.Read.{startsWith, Lines, listed, malformed, linesOf, mappingsOf}
-use Rattle.pair.specs.Load.{recordsOf, areThere, hasItsWords, targetsTested, linesTested, loadPairOf}
-use Rattle.pair.specs.inner.Pass.{fileEnd, targetEnd, fileEnds, targetEnds, summary, Fits, placedLines}
+use Rattle.pair.specs.Read.{beginsWith, Mappings, listed, malformed, mappingsBelow, mappingsOf}
+use Rattle.pair.specs.Load.{mappedRecords, areThere, hasItsWords, targetsTested, linesTested, loadPairOf}
+use Rattle.pair.specs.inner.Pass.{fileEnd, targetEnd, fileEnds, targetEnds, gathered, Fits, placedMappings}
 
 -- a bound of the larger of two is one of both
 max-both : (a b n : ℕ) → leb (max a b) n ≡ (leb a n && leb b n)
@@ -59,7 +59,7 @@ there-is k n (m ∷ ms) =
 
 -- the furthest one in memory decides whether all lie within
 within-is : (k len : ℕ) (words : List ℕ) (ms : List Mapping) → areThere (length words) ms ≡ true
-    → leb (targetEnds k ms) len ≡ (leb k len && allWithin len (recordsOf words ms))
+    → leb (targetEnds k ms) len ≡ (leb k len && allWithin len (mappedRecords words ms))
 within-is k len words [] t = sym (and-true (leb k len))
 within-is k len words (m ∷ ms) t =
     let h = ltb (m .last) (length words) in
@@ -67,32 +67,32 @@ within-is k len words (m ∷ ms) t =
     let w = wordsBetween words (m .first) (m .last) in
     let s : m .target + length w ≡ targetEnd m = omega (arith, length-take (spanOf (m .first) (m .last)) (drop (m .first) words), length-drop (m .first) words) in
     within-is (max k (targetEnd m)) len words ms (and-right h (areThere (length words) ms) t)
-    ∙ rw (max-both k (targetEnd m) len, and-assoc (leb k len) (leb (targetEnd m) len) (allWithin len (recordsOf words ms)), s, cond-and (leb (targetEnd m) len) (allWithin len (recordsOf words ms)))
+    ∙ rw (max-both k (targetEnd m) len, and-assoc (leb k len) (leb (targetEnd m) len) (allWithin len (mappedRecords words ms)), s, cond-and (leb (targetEnd m) len) (allWithin len (mappedRecords words ms)))
 
 -- What the first pass answers of good lines.
-pub record Summed (ls : Lines) (count words end : ℕ) : Type 0 where
+pub record Summed (ls : Mappings) (count words end : ℕ) : Type 0 where
   pub mappings : List Mapping
   pub is : ls ≡ listed mappings
   pub counts : count ≡ length mappings
   pub names : words ≡ fileEnds 0 mappings
   pub reaches : end ≡ targetEnds 0 mappings
 
-pub summed : (ls : Lines) {count words end : ℕ} {c : Checked} → c ≡ summary 0 0 0 ls → c ≡ Listed count words end → Summed ls count words end
+pub summed : (ls : Mappings) {count words end : ℕ} {c : Checked} → c ≡ gathered 0 0 0 ls → c ≡ Listed count words end → Summed ls count words end
 summed (listed ms) e f =
     let z : 0 + length ms ≡ length ms = omega arith in
     record { mappings = ms; is = refl; counts = cc; names = cc; reaches = cc }
 summed malformed e f = let z : _≡_ {A = ℕ} 0 1 = cc in absurd (omega arith)
 
-pub lines-malformed : (m bin : List ℕ) (ls : Lines) {c : Checked} → c ≡ summary 0 0 0 ls → c ≡ Malformed → refuseLoad m MalformedMapping ≡ linesTested m bin ls
+pub lines-malformed : (m bin : List ℕ) (ls : Mappings) {c : Checked} → c ≡ gathered 0 0 0 ls → c ≡ Malformed → refuseLoad m MalformedMapping ≡ linesTested m bin ls
 lines-malformed m bin (listed ms) e f = let z : _≡_ {A = ℕ} 0 1 = cc in absurd (omega arith)
 lines-malformed m bin malformed e f = refl
 
 -- The tests of good lines, in their order.
-pub records-count : (words : List ℕ) (ms : List Mapping) → length (recordsOf words ms) ≡ length ms
+pub records-count : (words : List ℕ) (ms : List Mapping) → length (mappedRecords words ms) ≡ length ms
 records-count words [] = refl
 records-count words (m ∷ ms) = ap suc (records-count words ms)
 
-module _ (m bin : List ℕ) (ls : Lines) {count words end : ℕ} (s : Summed ls count words end) where
+module _ (m bin : List ℕ) (ls : Mappings) {count words end : ℕ} (s : Summed ls count words end) where
   pub lines-odd : (length bin % 2 ≡ 0 → ⊥) → refuseLoad m MissingFileWords ≡ linesTested m bin ls
   lines-odd d = rw (s .is, ne-eqb _ _ d)
 
@@ -107,10 +107,10 @@ module _ (m bin : List ℕ) (ls : Lines) {count words end : ℕ} (s : Summed ls 
       all-there : areThere (length (allWords bin)) (s .mappings) ≡ true
       all-there = rw (words-length (length bin / 2) bin) (there ∙ le-leb _ _ h)
 
-      tested : linesTested m bin ls ≡ targetsTested m (recordsOf (allWords bin) (s .mappings))
+      tested : linesTested m bin ls ≡ targetsTested m (mappedRecords (allWords bin) (s .mappings))
       tested = rw (s .is, eq-eqb _ _ even, there, le-leb _ _ h)
 
-      within : allWithin (length m) (recordsOf (allWords bin) (s .mappings)) ≡ leb end (length m)
+      within : allWithin (length m) (mappedRecords (allWords bin) (s .mappings)) ≡ leb end (length m)
       within = sym (ap (λ (n : ℕ). leb n (length m)) (s .reaches) ∙ within-is 0 (length m) (allWords bin) (s .mappings) all-there ∙ rw (leb·zero (length m)))
 
       pub lines-past : length m < end → refuseLoad m PastMemory ≡ linesTested m bin ls
@@ -120,7 +120,7 @@ module _ (m bin : List ℕ) (ls : Lines) {count words end : ℕ} (s : Summed ls 
         pub lines-fit : Fits (allWords bin) (length m) ls
         lines-fit = rw (s .is) (all-there, within ∙ le-leb _ _ l)
 
-        pub lines-stored : {n : List ℕ} → n ≡ placedLines (allWords bin) m ls → record { answer = answered count; memory = n } ≡ linesTested m bin ls
+        pub lines-stored : {n : List ℕ} → n ≡ placedMappings (allWords bin) m ls → record { answer = answered count; memory = n } ≡ linesTested m bin ls
         lines-stored e =
             let p = rw (s .is) at e in
             let q = s .counts ∙ sym (records-count (allWords bin) (s .mappings)) in
@@ -133,12 +133,12 @@ module _ (m bin cfg : List ℕ) where
   load-long h = sym (cond-true _ _ h)
 
   module _ (t : tooLong m ≡ false) where
-    pub load-unheaded : startsWith cfg headLine ≡ false → refuseLoad m MalformedMapping ≡ loadPairOf m bin cfg
+    pub load-unheaded : beginsWith cfg headLine ≡ false → refuseLoad m MalformedMapping ≡ loadPairOf m bin cfg
     unfolding loadPairOf mappingsOf
     load-unheaded h = sym (cond-false _ _ t ∙ rw h)
 
     -- the code hands the rest of the text on as a slice
-    pub load-headed : {n : Loading} → startsWith cfg headLine ≡ true
-        → n ≡ linesTested m bin (linesOf (take (length cfg - length headLine) (drop (length headLine) cfg))) → n ≡ loadPairOf m bin cfg
+    pub load-headed : {n : Loading} → beginsWith cfg headLine ≡ true
+        → n ≡ linesTested m bin (mappingsBelow (take (length cfg - length headLine) (drop (length headLine) cfg))) → n ≡ loadPairOf m bin cfg
     unfolding loadPairOf mappingsOf
     load-headed h e = rw (rest cfg (length headLine)) at e ∙ sym (cond-false _ _ t ∙ rw h)

@@ -30,8 +30,8 @@ use Rattle.pair.specs.declared.line.Mapping.{Mapping}
 use Rattle.pair.specs.declared.line.Front.{Front}
 use Rattle.pair.specs.declared.line.Front.the-variants.{Blank, Line, Malformed}
 use Rattle.pair.specs.Format.{headLine}
-use Rattle.pair.specs.Read.{startsWith, frontOf, Lines, listed, malformed, withMapping, follow, linesFrom, linesOf, mappingsOf}
-use Rattle.pair.specs.Load.{recordsOf, hasItsWords, linesTested, loadPairOf}
+use Rattle.pair.specs.Read.{beginsWith, frontOf, Mappings, listed, malformed, withMapping, following, mappingsFrom, mappingsBelow, mappingsOf}
+use Rattle.pair.specs.Load.{mappedRecords, hasItsWords, linesTested, loadPairOf}
 use Rattle.pair.specs.Answer.{PairLengths, PairAnswersApart}
 use Rattle.pair.specs.Write.{textFor, PairWriting, refusePair, writingPair, writePairOf}
 use Rattle.pair.specs.Laws.{PairRefusesOrLoads, PairRefusesOrWrites, RightLengths, AnswersLengths}
@@ -48,29 +48,29 @@ pair-answers-apart (Written a b) (Written c d) e =
     cc
 
 -- a text has no more lines than bytes
-abbrev countOf : Lines → ℕ
+abbrev countOf : Mappings → ℕ
 countOf (listed ms) = length ms
 countOf malformed = 0
 
-with-count : (m : Mapping) (ls : Lines) (n : ℕ) → countOf ls ≤ n → countOf (withMapping m ls) ≤ suc n
+with-count : (m : Mapping) (ls : Mappings) (n : ℕ) → countOf ls ≤ n → countOf (withMapping m ls) ≤ suc n
 with-count m (listed ms) n h = omega arith
 with-count m malformed n h = omega arith
 
-follow-count : (on : List ℕ → Lines) (n : ℕ) → ((rest : List ℕ) → countOf (on rest) ≤ n) → (text : List ℕ) (f : Front) → countOf (follow on text f) ≤ suc n
+follow-count : (on : List ℕ → Mappings) (n : ℕ) → ((rest : List ℕ) → countOf (on rest) ≤ n) → (text : List ℕ) (f : Front) → countOf (following on text f) ≤ suc n
 follow-count on n h text Blank = omega (arith, h (drop 1 text))
 follow-count on n h text (Line m) = with-count m (on _) n (h _)
 follow-count on n h text Malformed = omega arith
 
-from-count : (n : ℕ) (text : List ℕ) → countOf (linesFrom n text) ≤ n
+from-count : (n : ℕ) (text : List ℕ) → countOf (mappingsFrom n text) ≤ n
 from-count zero text = omega arith
 from-count (suc n) text =
-    cond-both (λ (ls : Lines). countOf ls ≤ suc n) (eqb (length text) 0) (omega arith) (follow-count (linesFrom n) n (from-count n) text (frontOf text))
+    cond-both (λ (ls : Mappings). countOf ls ≤ suc n) (eqb (length text) 0) (omega arith) (follow-count (mappingsFrom n) n (from-count n) text (frontOf text))
 
 mappings-count : (cfg : List ℕ) → countOf (mappingsOf cfg) ≤ length cfg
-unfolding mappingsOf linesOf
+unfolding mappingsOf mappingsBelow
 mappings-count cfg =
     let rest = drop (length headLine) cfg in
-    cond-both (λ (ls : Lines). countOf ls ≤ length cfg) (startsWith cfg headLine)
+    cond-both (λ (ls : Mappings). countOf ls ≤ length cfg) (beginsWith cfg headLine)
     (omega (arith, from-count (length rest) rest, length-drop (length headLine) cfg)) (omega arith)
 
 pub pair-refuses-or-loads : PairRefusesOrLoads
@@ -78,10 +78,10 @@ unfolding loadPairOf
 pair-refuses-or-loads m bin cfg =
     cond-both (RefusesOrLoads m (length cfg)) (tooLong m) (inl (MemoryTooLong, refl)) (by-lines (mappingsOf cfg) (mappings-count cfg))
   where
-    by-lines : (ls : Lines) → countOf ls ≤ length cfg → RefusesOrLoads m (length cfg) (linesTested m bin ls)
+    by-lines : (ls : Mappings) → countOf ls ≤ length cfg → RefusesOrLoads m (length cfg) (linesTested m bin ls)
     by-lines (listed ms) h =
         cond-both (RefusesOrLoads m (length cfg)) (hasItsWords bin ms)
-        (cond-both (RefusesOrLoads m (length cfg)) (allWithin (length m) (recordsOf (allWords bin) ms))
+        (cond-both (RefusesOrLoads m (length cfg)) (allWithin (length m) (mappedRecords (allWords bin) ms))
         (inr (_, (refl, omega (arith, records-count (allWords bin) ms)))) (inl (PastMemory, refl)))
         (inl (MissingFileWords, refl))
     by-lines malformed h = inl (MalformedMapping, refl)

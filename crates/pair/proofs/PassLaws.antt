@@ -13,24 +13,24 @@ use Rattle.pair.specs.declared.line.Front.the-variants.{Blank, Line, Mal
 use Rattle.pair.specs.declared.check.Checked.the-variants.{Listed, Malformed}
 use Rattle.text.specs.Text.{lineFeed}
 use Rattle.pair.specs.Format.{lineBytes}
-use Rattle.pair.specs.Read.{mappingAt, frontOf, Lines, listed, malformed, withMapping, follow, linesOf}
-use Rattle.pair.specs.inner.Pass.{fileEnd, targetEnd, fileEnds, targetEnds, summary, Fits, placedLines}
+use Rattle.pair.specs.Read.{mappingAt, frontOf, Mappings, listed, malformed, withMapping, following, mappingsBelow}
+use Rattle.pair.specs.inner.Pass.{fileEnd, targetEnd, fileEnds, targetEnds, gathered, Fits, placedMappings}
 use Rattle.pair.proofs.LinesLaws.{LineShown, line-shown, lines-end, lines-on}
 
 -- The first pass has come to byte `at`: the mappings before it are counted, and reach so far.
 pub record Checking (lines : List ℕ) (at count words end : ℕ) : Type 0 where
   pub within : at ≤ length lines
   pub few : count ≤ at
-  pub same : summary count words end (linesOf (drop at lines)) ≡ summary 0 0 0 (linesOf lines)
+  pub same : gathered count words end (mappingsBelow (drop at lines)) ≡ gathered 0 0 0 (mappingsBelow lines)
 
 pub checking : (lines : List ℕ) → Checking lines 0 0 0 0
 checking lines = record { within = omega arith; few = omega arith; same = refl }
 
 -- one mapping more
-summary-on : (count words end : ℕ) (m : Mapping) (ls : Lines)
-    → summary (count + 1) (max words (fileEnd m)) (max end (targetEnd m)) ls ≡ summary count words end (withMapping m ls)
-summary-on count words end m (listed ms) = let e : count + 1 + length ms ≡ count + suc (length ms) = omega arith in rw e
-summary-on count words end m malformed = refl
+gathered-on : (count words end : ℕ) (m : Mapping) (ls : Mappings)
+    → gathered (count + 1) (max words (fileEnd m)) (max end (targetEnd m)) ls ≡ gathered count words end (withMapping m ls)
+gathered-on count words end m (listed ms) = let e : count + 1 + length ms ≡ count + suc (length ms) = omega arith in rw e
+gathered-on count words end m malformed = refl
 
 -- what the front of the lines from byte `at` on shows; the code reads it off a slice
 module _ (lines : List ℕ) (at : ℕ) {f : Front} (h : at < length lines) (e : f ≡ frontOf (take (length lines - at) (drop at lines))) where
@@ -46,7 +46,7 @@ module _ (lines : List ℕ) (at : ℕ) {f : Front} (h : at < length lines) (e : 
   pub line-within : {m : Mapping} → f ≡ Line m → at + lineBytes ≤ length lines
   line-within g = omega (arith, line-at g .complete, length-drop at lines)
 
-  front-lines : {g : Front} → f ≡ g → linesOf (drop at lines) ≡ follow linesOf (drop at lines) g
+  front-lines : {g : Front} → f ≡ g → mappingsBelow (drop at lines) ≡ following mappingsBelow (drop at lines) g
   front-lines g = lines-on (drop at lines) some (sym g ∙ front-is)
 
 module _ {lines : List ℕ} {at count words end : ℕ} {f : Front} (k : Checking lines at count words end) (h : at < length lines)
@@ -56,7 +56,7 @@ module _ {lines : List ℕ} {at count words end : ℕ} {f : Front} (k : Checking
       record {
         within = omega arith;
         few = omega (arith, k .few);
-        same = rw (← drop-drop 1 at lines) (ap (summary count words end) (sym (front-lines lines at h e g)) ∙ k .same);
+        same = rw (← drop-drop 1 at lines) (ap (gathered count words end) (sym (front-lines lines at h e g)) ∙ k .same);
       }
 
   pub checking-line : {m : Mapping} {w t : ℕ} → f ≡ Line m → w ≡ max words (fileEnd m) → t ≡ max end (targetEnd m)
@@ -67,17 +67,17 @@ module _ {lines : List ℕ} {at count words end : ℕ} {f : Front} (k : Checking
         few = omega (arith, k .few);
         same =
             rw (← drop-drop lineBytes at lines, p, q) (
-            summary-on count words end m (linesOf (drop lineBytes (drop at lines)))
-            ∙ ap (summary count words end) (sym (front-lines lines at h e g))
+            gathered-on count words end m (mappingsBelow (drop lineBytes (drop at lines)))
+            ∙ ap (gathered count words end) (sym (front-lines lines at h e g))
             ∙ k .same);
       }
 
-  pub checking-malformed : f ≡ MalformedFront → Malformed ≡ summary 0 0 0 (linesOf lines)
-  checking-malformed g = ap (summary count words end) (sym (front-lines lines at h e g)) ∙ k .same
+  pub checking-malformed : f ≡ MalformedFront → Malformed ≡ gathered 0 0 0 (mappingsBelow lines)
+  checking-malformed g = ap (gathered count words end) (sym (front-lines lines at h e g)) ∙ k .same
 
 pub checking-end : {lines : List ℕ} {at count words end : ℕ} → Checking lines at count words end → length lines ≤ at
-    → Listed count words end ≡ summary 0 0 0 (linesOf lines)
+    → Listed count words end ≡ gathered 0 0 0 (mappingsBelow lines)
 checking-end {lines} {at} {count} {words} {end} k h =
     let z : count + 0 ≡ count = omega arith in
     let l : length (drop at lines) ≡ 0 = omega (arith, length-drop at lines) in
-    rw z at (ap (summary count words end) (sym (lines-end (drop at lines) l)) ∙ k .same)
+    rw z at (ap (gathered count words end) (sym (lines-end (drop at lines) l)) ∙ k .same)

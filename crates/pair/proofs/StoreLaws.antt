@@ -22,9 +22,9 @@ use Rattle.pair.specs.declared.line.Front.{Front}
 use Rattle.pair.specs.declared.line.Front.the-variants.{Blank, Line, Malformed}
 use Rattle.text.specs.Text.{lineFeed}
 use Rattle.pair.specs.Format.{lineBytes}
-use Rattle.pair.specs.Read.{mappingAt, isLine, frontOf, Lines, listed, malformed, withMapping, follow, linesOf}
-use Rattle.pair.specs.Load.{recordsOf, areThere}
-use Rattle.pair.specs.inner.Pass.{targetEnd, Fits, placedLines}
+use Rattle.pair.specs.Read.{mappingAt, isLine, frontOf, Mappings, listed, malformed, withMapping, following, mappingsBelow}
+use Rattle.pair.specs.Load.{mappedRecords, areThere}
+use Rattle.pair.specs.inner.Pass.{targetEnd, Fits, placedMappings}
 use Rattle.pair.proofs.FrontLaws.{front-blank, front-other}
 use Rattle.pair.proofs.LinesLaws.{LineShown, line-shown, lines-end, lines-on}
 
@@ -54,15 +54,15 @@ module _ (bin : List ℕ) (first last : ℕ) (o : first ≤ last) (h : last < le
   mapping-stored m n target l e = e ∙ ap (sets m target) part-words ∙ sym (overwrite-sets m target (wordsBetween (allWords bin) first last) (omega (arith, between-length)))
 
 -- What lines that fit show of their first mapping.
-record FirstFits (words : List ℕ) (len : ℕ) (mp : Mapping) (ls : Lines) : Type 0 where
+record FirstFits (words : List ℕ) (len : ℕ) (mp : Mapping) (ls : Mappings) : Type 0 where
   there : mp .last < length words
   reach : mp .target + length (wordsBetween words (mp .first) (mp .last)) ≤ len
   later : Fits words len ls
 
-first-fits : (words : List ℕ) (len : ℕ) (mp : Mapping) (ls : Lines) → Fits words len (withMapping mp ls) → FirstFits words len mp ls
+first-fits : (words : List ℕ) (len : ℕ) (mp : Mapping) (ls : Mappings) → Fits words len (withMapping mp ls) → FirstFits words len mp ls
 first-fits words len mp (listed ms) k =
     let t = ltb (mp .last) (length words) in
-    let s = split len (recordOver (mp .target) (wordsBetween words (mp .first) (mp .last))) (recordsOf words ms) (k .1) in
+    let s = split len (recordOver (mp .target) (wordsBetween words (mp .first) (mp .last))) (mappedRecords words ms) (k .1) in
     record {
       there = ltb-true (mp .last) (length words) (and-left t (areThere (length words) ms) (k .0));
       reach = s .here;
@@ -70,8 +70,8 @@ first-fits words len mp (listed ms) k =
     }
 first-fits words len mp malformed k = absurd k
 
-placed-on : (words m : List ℕ) (len : ℕ) (mp : Mapping) (ls : Lines) → Fits words len ls
-    → placedLines words (overwrite m (mp .target) (wordsBetween words (mp .first) (mp .last))) ls ≡ placedLines words m (withMapping mp ls)
+placed-on : (words m : List ℕ) (len : ℕ) (mp : Mapping) (ls : Mappings) → Fits words len ls
+    → placedMappings words (overwrite m (mp .target) (wordsBetween words (mp .first) (mp .last))) ls ≡ placedMappings words m (withMapping mp ls)
 placed-on words m len mp (listed ms) k = refl
 placed-on words m len mp malformed k = absurd k
 
@@ -79,10 +79,10 @@ placed-on words m len mp malformed k = absurd k
 pub record Storing (words lines m₀ : List ℕ) (at : ℕ) (m : List ℕ) : Type 0 where
   pub within : at ≤ length lines
   pub size : length m ≡ length m₀
-  pub fits : Fits words (length m₀) (linesOf (drop at lines))
-  pub same : placedLines words m (linesOf (drop at lines)) ≡ placedLines words m₀ (linesOf lines)
+  pub fits : Fits words (length m₀) (mappingsBelow (drop at lines))
+  pub same : placedMappings words m (mappingsBelow (drop at lines)) ≡ placedMappings words m₀ (mappingsBelow lines)
 
-pub storing : (words lines m : List ℕ) → Fits words (length m) (linesOf lines) → Storing words lines m 0 m
+pub storing : (words lines m : List ℕ) → Fits words (length m) (mappingsBelow lines) → Storing words lines m 0 m
 storing words lines m k = record { within = omega arith; size = refl; fits = k; same = refl }
 
 -- What the line at byte `at` shows, where it is not empty.
@@ -94,10 +94,10 @@ pub record LineFits (words lines m₀ : List ℕ) (at : ℕ) (m : List ℕ) (mp 
   pub next : (n : List ℕ) → n ≡ overwrite m (mp .target) (wordsBetween words (mp .first) (mp .last)) → Storing words lines m₀ (at + lineBytes) n
 
 module _ {words lines m₀ : List ℕ} {at : ℕ} {m : List ℕ} (k : Storing words lines m₀ at m) where
-  pub storing-end : length lines ≤ at → m ≡ placedLines words m₀ (linesOf lines)
+  pub storing-end : length lines ≤ at → m ≡ placedMappings words m₀ (mappingsBelow lines)
   storing-end h =
       let l : length (drop at lines) ≡ 0 = omega (arith, length-drop at lines) in
-      ap (placedLines words m) (sym (lines-end (drop at lines) l)) ∙ k .same
+      ap (placedMappings words m) (sym (lines-end (drop at lines) l)) ∙ k .same
 
   module _ (h : at < length lines) where
     some : 0 < length (drop at lines)
@@ -113,13 +113,13 @@ module _ {words lines m₀ : List ℕ} {at : ℕ} {m : List ℕ} (k : Storing wo
           within = omega arith;
           size = k .size;
           fits = rw (← drop-drop 1 at lines) (rw l at (k .fits));
-          same = rw (← drop-drop 1 at lines) (ap (placedLines words m) (sym l) ∙ k .same);
+          same = rw (← drop-drop 1 at lines) (ap (placedMappings words m) (sym l) ∙ k .same);
         }
 
     line-stored : Line (mappingAt (drop at lines)) ≡ frontOf (drop at lines) → LineFits words lines m₀ at m (mappingAt (drop at lines))
     line-stored e =
         let mp = mappingAt (drop at lines) in
-        let ls = linesOf (drop lineBytes (drop at lines)) in
+        let ls = mappingsBelow (drop lineBytes (drop at lines)) in
         let l = lines-on (drop at lines) some e in
         let s = line-shown (drop at lines) mp (sym e) in
         let f = first-fits words (length m₀) mp ls (rw l at (k .fits)) in
@@ -134,7 +134,7 @@ module _ {words lines m₀ : List ℕ} {at : ℕ} {m : List ℕ} (k : Storing wo
                 within = c;
                 size = ap length q ∙ overwrite-length m (mp .target) (wordsBetween words (mp .first) (mp .last)) (omega (arith, f .reach, k .size)) ∙ k .size;
                 fits = rw (← drop-drop lineBytes at lines) (f .later);
-                same = rw (← drop-drop lineBytes at lines, q) (placed-on words m (length m₀) mp ls (f .later) ∙ ap (placedLines words m) (sym l) ∙ k .same);
+                same = rw (← drop-drop lineBytes at lines, q) (placed-on words m (length m₀) mp ls (f .later) ∙ ap (placedMappings words m) (sym l) ∙ k .same);
               };
         }
 

@@ -21,11 +21,11 @@ use Rattle.records.specs.Loading.{refuseLoad, acceptLoad}
 use Rattle.pair.specs.declared.line.Mapping.{Mapping}
 use Rattle.pair.specs.declared.line.Front.{Front}
 use Rattle.pair.specs.declared.line.Front.the-variants.{Blank, Line, Malformed}
-use Rattle.pair.specs.Format.{headLine, mappingLine, lineBytes, Item, blank, mapping, itemText, itemsText, textOf, mappingsIn}
-use Rattle.pair.specs.Read.{numberAt, mappingAt, startsWith, frontOf, Lines, listed, malformed, withMapping, follow, linesOf, mappingsOf}
-use Rattle.pair.specs.Load.{recordsOf, hasItsWords, targetsTested, linesTested, loadPairOf}
+use Rattle.pair.specs.Format.{headLine, mappingLine, lineBytes, Item, blank, mapping, itemText, itemsText, mappingText, mappingsIn}
+use Rattle.pair.specs.Read.{numberAt, mappingAt, beginsWith, frontOf, Mappings, listed, malformed, withMapping, following, mappingsBelow, mappingsOf}
+use Rattle.pair.specs.Load.{mappedRecords, hasItsWords, targetsTested, linesTested, loadPairOf}
 use Rattle.pair.specs.Laws.{InDigits, ReadsPrinted, GoodItem, GoodItems, GoodText, TakesTexts}
-use Rattle.pair.proofs.FrontLaws.{starts-with, starts-is, line-length, front-blank, front-line}
+use Rattle.pair.proofs.FrontLaws.{begins-with, begins-is, line-length, front-blank, front-line}
 use Rattle.pair.proofs.LinesLaws.{line-shown, blank-shown, lines-end, lines-on}
 use Rattle.pair.proofs.LoadLaws.{records-count}
 
@@ -66,11 +66,11 @@ printed-front : (m : Mapping) → InDigits m → m .first ≤ m .last → (rest 
 printed-front m k o rest =
     let t = mappingLine m ++ rest in
     let some : 0 < length t = omega (arith, line-length m, length-append (mappingLine m) rest) in
-    subst (λ (q : Mapping). q .first ≤ q .last → startsWith t (mappingLine q) ≡ true → Line q ≡ frontOf t) (reads-printed m k rest)
-    (front-line t some (not-blank m rest)) o (starts-with (mappingLine m) rest)
+    subst (λ (q : Mapping). q .first ≤ q .last → beginsWith t (mappingLine q) ≡ true → Line q ≡ frontOf t) (reads-printed m k rest)
+    (front-line t some (not-blank m rest)) o (begins-with (mappingLine m) rest)
 
 -- The lines of good items are their mappings.
-pub items-lines : (is : List Item) → GoodItems is → linesOf (itemsText is) ≡ listed (mappingsIn is)
+pub items-lines : (is : List Item) → GoodItems is → mappingsBelow (itemsText is) ≡ listed (mappingsIn is)
 items-lines [] k = lines-end [] refl
 items-lines (blank ∷ is) k =
     let t = lineFeed ∷ itemsText is in
@@ -78,33 +78,33 @@ items-lines (blank ∷ is) k =
 items-lines (mapping m ∷ is) k =
     let t = mappingLine m ++ itemsText is in
     lines-on t (omega (arith, line-length m, length-append (mappingLine m) (itemsText is))) (printed-front m (k .0 .0) (k .0 .1) (itemsText is))
-    ∙ ap (λ (l : List ℕ). withMapping m (linesOf l)) (drop-at (mappingLine m) (itemsText is) lineBytes (line-length m))
+    ∙ ap (λ (l : List ℕ). withMapping m (mappingsBelow l)) (drop-at (mappingLine m) (itemsText is) lineBytes (line-length m))
     ∙ ap (withMapping m) (items-lines is (k .1))
 
-pub text-mappings : (is : List Item) → GoodItems is → mappingsOf (textOf is) ≡ listed (mappingsIn is)
+pub text-mappings : (is : List Item) → GoodItems is → mappingsOf (mappingText is) ≡ listed (mappingsIn is)
 unfolding mappingsOf
 text-mappings is k = items-lines is k
 
--- Lines that are read are good items.
+-- Mappings that are read are good items.
 record Itemised (text : List ℕ) : Type 0 where
   items : List Item
   good : GoodItems items
   is : text ≡ itemsText items
 
 -- the lines behind a mapping's line
-behind : (m : Mapping) (ls : Lines) (ms : List Mapping) → withMapping m ls ≡ listed ms → (qs : List Mapping) × (ls ≡ listed qs)
+behind : (m : Mapping) (ls : Mappings) (ms : List Mapping) → withMapping m ls ≡ listed ms → (qs : List Mapping) × (ls ≡ listed qs)
 behind m (listed qs) ms e = (qs, refl)
 behind m malformed ms e = let z : _≡_ {A = ℕ} 0 1 = cc in absurd (omega arith)
 
-lines-items : (n : ℕ) (text : List ℕ) → length text ≤ n → (ms : List Mapping) → linesOf text ≡ listed ms → Itemised text
+lines-items : (n : ℕ) (text : List ℕ) → length text ≤ n → (ms : List Mapping) → mappingsBelow text ≡ listed ms → Itemised text
 lines-items zero [] h ms e = record { items = []; good = tt; is = refl }
 lines-items zero (b ∷ text) h ms e = absurd (omega arith)
 lines-items (suc n) [] h ms e = record { items = []; good = tt; is = refl }
 lines-items (suc n) (b ∷ text) h ms e =
     go (frontOf (b ∷ text)) refl (lines-items n text (omega arith)) (lines-items n (drop lineBytes (b ∷ text)) (omega (arith, length-drop lineBytes (b ∷ text))))
   where
-    go : (f : Front) → frontOf (b ∷ text) ≡ f → ((ms : List Mapping) → linesOf text ≡ listed ms → Itemised text)
-        → ((ms : List Mapping) → linesOf (drop lineBytes (b ∷ text)) ≡ listed ms → Itemised (drop lineBytes (b ∷ text))) → Itemised (b ∷ text)
+    go : (f : Front) → frontOf (b ∷ text) ≡ f → ((ms : List Mapping) → mappingsBelow text ≡ listed ms → Itemised text)
+        → ((ms : List Mapping) → mappingsBelow (drop lineBytes (b ∷ text)) ≡ listed ms → Itemised (drop lineBytes (b ∷ text))) → Itemised (b ∷ text)
     go Blank g on past =
         let l = lines-on (b ∷ text) (omega arith) (sym g) in
         let k = on ms (sym l ∙ e) in
@@ -112,7 +112,7 @@ lines-items (suc n) (b ∷ text) h ms e =
     go (Line m) g on past =
         let l = lines-on (b ∷ text) (omega arith) (sym g) in
         let s = line-shown (b ∷ text) m g in
-        let q = behind m (linesOf (drop lineBytes (b ∷ text))) ms (sym l ∙ e) in
+        let q = behind m (mappingsBelow (drop lineBytes (b ∷ text))) ms (sym l ∙ e) in
         let k = past (q .0) (q .1) in
         record {
           items = mapping m ∷ k .items;
@@ -126,12 +126,12 @@ lines-items (suc n) (b ∷ text) h ms e =
 
 mappings-items : (cfg : List ℕ) (ms : List Mapping) → mappingsOf cfg ≡ listed ms → GoodText cfg
 unfolding mappingsOf
-mappings-items cfg ms = go (startsWith cfg headLine) refl
+mappings-items cfg ms = go (beginsWith cfg headLine) refl
   where
-    go : (t : Bool) → startsWith cfg headLine ≡ t → cond t (linesOf (drop (length headLine) cfg)) malformed ≡ listed ms → GoodText cfg
+    go : (t : Bool) → beginsWith cfg headLine ≡ t → cond t (mappingsBelow (drop (length headLine) cfg)) malformed ≡ listed ms → GoodText cfg
     go true s e =
         let k = lines-items (length (drop (length headLine) cfg)) (drop (length headLine) cfg) (omega arith) ms e in
-        record { items = k .items; good = k .good; is = starts-is cfg headLine s ∙ ap (λ (t : List ℕ). headLine ++ t) (k .is) }
+        record { items = k .items; good = k .good; is = begins-is cfg headLine s ∙ ap (λ (t : List ℕ). headLine ++ t) (k .is) }
     go false s e = let z : _≡_ {A = ℕ} 0 1 = cc in absurd (omega arith)
 
 same-number : {A : Type 0} {a b : ℕ} → _≡_ {A = Report A} (refused a) (refused b) → a ≡ b
@@ -140,17 +140,17 @@ same-number e = cc
 -- Of good lines the answer is no 15, and counts them.
 module _ (m bin : List ℕ) (ms : List Mapping) where
   tested-other : linesTested m bin (listed ms) .answer ≡ refused 15 → ⊥
-  tested-other = go (hasItsWords bin ms) (allWithin (length m) (recordsOf (allWords bin) ms))
+  tested-other = go (hasItsWords bin ms) (allWithin (length m) (mappedRecords (allWords bin) ms))
     where
-      go : (u v : Bool) → cond u (cond v (acceptLoad m (recordsOf (allWords bin) ms)) (refuseLoad m PastMemory)) (refuseLoad m MissingFileWords) .answer ≡ refused 15 → ⊥
+      go : (u v : Bool) → cond u (cond v (acceptLoad m (mappedRecords (allWords bin) ms)) (refuseLoad m PastMemory)) (refuseLoad m MissingFileWords) .answer ≡ refused 15 → ⊥
       go true true e = no-answer (sym e)
       go true false e = let z : _≡_ {A = ℕ} 11 15 = same-number e in omega arith
       go false v e = let z : _≡_ {A = ℕ} 16 15 = same-number e in omega arith
 
   tested-counts : (n : ℕ) → linesTested m bin (listed ms) .answer ≡ answered n → n ≡ length ms
-  tested-counts n = go (hasItsWords bin ms) (allWithin (length m) (recordsOf (allWords bin) ms))
+  tested-counts n = go (hasItsWords bin ms) (allWithin (length m) (mappedRecords (allWords bin) ms))
     where
-      go : (u v : Bool) → cond u (cond v (acceptLoad m (recordsOf (allWords bin) ms)) (refuseLoad m PastMemory)) (refuseLoad m MissingFileWords) .answer ≡ answered n → n ≡ length ms
+      go : (u v : Bool) → cond u (cond v (acceptLoad m (mappedRecords (allWords bin) ms)) (refuseLoad m PastMemory)) (refuseLoad m MissingFileWords) .answer ≡ answered n → n ≡ length ms
       go true true e = sym (same-answer e) ∙ records-count (allWords bin) ms
       go true false e = no-answer e
       go false v e = no-answer e
@@ -169,7 +169,7 @@ module _ (m bin cfg : List ℕ) where
   taken-good : length m ≤ 65536 → (loadPairOf m bin cfg .answer ≡ refused 15 → ⊥) → GoodText cfg
   taken-good h d = go (mappingsOf cfg) refl
     where
-      go : (ls : Lines) → mappingsOf cfg ≡ ls → GoodText cfg
+      go : (ls : Mappings) → mappingsOf cfg ≡ ls → GoodText cfg
       go (listed ms) e = mappings-items cfg ms e
       go malformed e = absurd (d (rw (by-lines h, e)))
 

@@ -23,7 +23,7 @@ use Rattle.records.specs.Region.{spanOf, wordsBetween, regionAdmission}
 use Rattle.records.specs.Loading.{refuseLoad}
 use Rattle.records.proofs.LoadLaws.{Region, admitted-region, region-length, region-within, region-back}
 use Rattle.pair.specs.declared.line.Mapping.{Mapping}
-use Rattle.pair.specs.Format.{mapping, textOf}
+use Rattle.pair.specs.Format.{mapping, mappingText}
 use Rattle.pair.specs.Read.{listed, mappingsOf}
 use Rattle.pair.specs.Load.{linesTested, loadPairOf}
 use Rattle.pair.specs.Answer.{PairLengths}

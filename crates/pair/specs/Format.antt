@@ -32,8 +32,8 @@ itemsText [] = []
 itemsText (i ∷ is) = itemText i ++ itemsText is
 
 -- a whole text: "`[mapping]` first", and items
-abbrev pub textOf : List Item → List ℕ
-textOf is = headLine ++ itemsText is
+abbrev pub mappingText : List Item → List ℕ
+mappingText is = headLine ++ itemsText is
 
 -- the bytes of a text of one mapping
 abbrev pub textBytes : ℕ

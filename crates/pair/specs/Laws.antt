@@ -11,16 +11,16 @@ use Rattle.refusal.specs.Report.{refused, answered}
 use Rattle.records.specs.Region.{spanOf, wordsBetween}
 use Rattle.records.specs.Loading.{RefusesOrLoads, laying, PutBack}
 use Rattle.pair.specs.declared.line.Mapping.{Mapping}
-use Rattle.pair.specs.Format.{mappingLine, Item, blank, mapping, textOf, textBytes, mappingsIn}
-use Rattle.pair.specs.Read.{mappingAt, frontOf, listed, follow, linesOf}
+use Rattle.pair.specs.Format.{mappingLine, Item, blank, mapping, mappingText, textBytes, mappingsIn}
+use Rattle.pair.specs.Read.{mappingAt, frontOf, listed, following, mappingsBelow}
 use Rattle.pair.specs.Load.{loadPairOf}
 use Rattle.pair.specs.Answer.{PairLengths}
 use Rattle.pair.specs.Write.{refusePair, writePairOf}
 
--- the lines by their own rule, without a count: the text ends, or its front decides, and is followed by the lines behind it
-abbrev pub LinesEquation : Type 0
-LinesEquation =
-    (text : List ℕ) → linesOf text ≡ cond (eqb (length text) 0) (listed []) (follow linesOf text (frontOf text))
+-- the mappings by their own rule, without a count: the text ends, or its front decides, and is followed by what stands below it
+abbrev pub MappingsEquation : Type 0
+MappingsEquation =
+    (text : List ℕ) → mappingsBelow text ≡ cond (eqb (length text) 0) (listed []) (following mappingsBelow text (frontOf text))
 
 -- three numbers that four digits can print
 abbrev pub InDigits : Mapping → Type 0
@@ -43,7 +43,7 @@ GoodItems (i ∷ is) = GoodItem i × GoodItems is
 pub record GoodText (cfg : List ℕ) : Type 0 where
   pub items : List Item
   pub good : GoodItems items
-  pub is : cfg ≡ textOf items
+  pub is : cfg ≡ mappingText items
 
 -- which texts are taken, without any reading: 15 is not given exactly if the text is good, and "the answer is the number of mapping lines"
 pub record TakesTexts : Type 0 where

@@ -12,12 +12,12 @@ use Rattle.records.specs.Records.{Record, recordOver, allWithin}
 use Rattle.records.specs.Region.{wordsBetween}
 use Rattle.records.specs.Loading.{Loading, refuseLoad, acceptLoad}
 use Rattle.pair.specs.declared.line.Mapping.{Mapping}
-use Rattle.pair.specs.Read.{Lines, listed, malformed, mappingsOf}
+use Rattle.pair.specs.Read.{Mappings, listed, malformed, mappingsOf}
 
 -- the records that a flat file's words make: "file word range, then target address"
-abbrev pub recordsOf : List ℕ → List Mapping → List Record
-recordsOf words [] = []
-recordsOf words (m ∷ ms) = recordOver (m .target) (wordsBetween words (m .first) (m .last)) ∷ recordsOf words ms
+abbrev pub mappedRecords : List ℕ → List Mapping → List Record
+mappedRecords words [] = []
+mappedRecords words (m ∷ ms) = recordOver (m .target) (wordsBetween words (m .first) (m .last)) ∷ mappedRecords words ms
 
 -- the file words that these mappings name are among the n that there are
 abbrev pub areThere : ℕ → List Mapping → Bool
@@ -33,9 +33,9 @@ abbrev pub targetsTested : List ℕ → List Record → Loading
 targetsTested m rs = cond (allWithin (length m) rs) (acceptLoad m rs) (refuseLoad m PastMemory)
 
 -- each test is over all lines before the next one is made
-abbrev pub linesTested : List ℕ → List ℕ → Lines → Loading
+abbrev pub linesTested : List ℕ → List ℕ → Mappings → Loading
 linesTested m bin (listed ms) =
-    cond (hasItsWords bin ms) (targetsTested m (recordsOf (allWords bin) ms)) (refuseLoad m MissingFileWords)
+    cond (hasItsWords bin ms) (targetsTested m (mappedRecords (allWords bin) ms)) (refuseLoad m MissingFileWords)
 linesTested m bin malformed = refuseLoad m MalformedMapping
 
 unfoldable pub loadPairOf : List ℕ → List ℕ → List ℕ → Loading

@@ -24,44 +24,44 @@ abbrev pub mappingAt : List ℕ → Mapping
 mappingAt text = record { first = numberAt text 1; last = numberAt text 9; target = numberAt text 17 }
 
 -- whether a text begins with another
-abbrev pub startsWith : List ℕ → List ℕ → Bool
-startsWith text [] = true
-startsWith [] (b ∷ front) = false
-startsWith (a ∷ text) (b ∷ front) = eqb a b && startsWith text front
+abbrev pub beginsWith : List ℕ → List ℕ → Bool
+beginsWith text [] = true
+beginsWith [] (b ∷ front) = false
+beginsWith (a ∷ text) (b ∷ front) = eqb a b && beginsWith text front
 
 -- a mapping's line stands at the front, and its first word is not above its last
 abbrev pub isLine : List ℕ → Mapping → Bool
-isLine text m = startsWith text (mappingLine m) && leb (m .first) (m .last)
+isLine text m = beginsWith text (mappingLine m) && leb (m .first) (m .last)
 
 -- what stands at the front: an empty line, a mapping's line, or neither
 unfoldable pub frontOf : List ℕ → Front
 frontOf text =
-    cond (startsWith text (lineFeed ∷ [])) Blank
+    cond (beginsWith text (lineFeed ∷ [])) Blank
     (cond (isLine text (mappingAt text)) (Line (mappingAt text)) Malformed)
 
--- all lines behind the first one: their mappings, or that one is malformed
-pub data Lines : Type 0 where
-  listed : List Mapping → Lines
-  malformed : Lines
+-- the mappings of all lines below the first one, or that a line is malformed
+pub data Mappings : Type 0 where
+  listed : List Mapping → Mappings
+  malformed : Mappings
 
-abbrev pub withMapping : Mapping → Lines → Lines
+abbrev pub withMapping : Mapping → Mappings → Mappings
 withMapping m (listed ms) = listed (m ∷ ms)
 withMapping m malformed = malformed
 
 -- a line is followed by the rest of the text, which `on` reads
-abbrev pub follow : (List ℕ → Lines) → List ℕ → Front → Lines
-follow on text Blank = on (drop 1 text)
-follow on text (Line m) = withMapping m (on (drop lineBytes text))
-follow on text Malformed = malformed
+abbrev pub following : (List ℕ → Mappings) → List ℕ → Front → Mappings
+following on text Blank = on (drop 1 text)
+following on text (Line m) = withMapping m (on (drop lineBytes text))
+following on text Malformed = malformed
 
--- by at most n lines: each has a byte or more, so that n runs out only at the end of the text. `LinesEquation` says the same without n.
-abbrev pub linesFrom : ℕ → List ℕ → Lines
-linesFrom zero text = listed []
-linesFrom (suc n) text = cond (eqb (length text) 0) (listed []) (follow (linesFrom n) text (frontOf text))
+-- by at most n lines: each has a byte or more, so that n runs out only at the end of the text. `MappingsEquation` says the same without n.
+abbrev pub mappingsFrom : ℕ → List ℕ → Mappings
+mappingsFrom zero text = listed []
+mappingsFrom (suc n) text = cond (eqb (length text) 0) (listed []) (following (mappingsFrom n) text (frontOf text))
 
-unfoldable pub linesOf : List ℕ → Lines
-linesOf text = linesFrom (length text) text
+unfoldable pub mappingsBelow : List ℕ → Mappings
+mappingsBelow text = mappingsFrom (length text) text
 
 -- the whole text: "only `[mapping]` first", then its lines
-unfoldable pub mappingsOf : List ℕ → Lines
-mappingsOf cfg = cond (startsWith cfg headLine) (linesOf (drop (length headLine) cfg)) malformed
+unfoldable pub mappingsOf : List ℕ → Mappings
+mappingsOf cfg = cond (beginsWith cfg headLine) (mappingsBelow (drop (length headLine) cfg)) malformed

@@ -14,12 +14,12 @@ use Rattle.bigendian.specs.Numbers.{bytesOf}
 use Rattle.records.specs.Records.{overwrite}
 use Rattle.records.specs.Region.{spanOf, wordsBetween, regionAdmission}
 use Rattle.pair.specs.declared.PairAnswer.{PairAnswer}
-use Rattle.pair.specs.Format.{mapping, textOf}
+use Rattle.pair.specs.Format.{mapping, mappingText}
 use Rattle.pair.specs.Answer.{PairLengths, pairReported}
 
 -- "`[mapping]`, one line from file word 0": the text for so many words that are to go to the address `first` and on
 unfoldable pub textFor : ℕ → ℕ → List ℕ
-textFor first words = textOf (mapping (record { first = 0; last = words - 1; target = first }) ∷ [])
+textFor first words = mappingText (mapping (record { first = 0; last = words - 1; target = first }) ∷ [])
 
 -- all that a writing leaves: what it reports, and both rooms
 pub record PairWriting : Type 0 where

@@ -2,8 +2,8 @@
 // all lines is gathered on the way.
 ghost use mathlib.Core.Path.{_≡_};
 ghost use Prim.Native.Nat.{max, _≤_};
-ghost use Rattle.pair.specs.Read.{linesOf};
-ghost use Rattle.pair.specs.inner.Pass.{fileEnd, targetEnd, summary};
+ghost use Rattle.pair.specs.Read.{mappingsBelow};
+ghost use Rattle.pair.specs.inner.Pass.{fileEnd, targetEnd, gathered};
 use crate::line;
 use crate::line::Front;
 use crate::line::Mapping;
@@ -41,7 +41,7 @@ fn target_end(mapping: Mapping) -> usize
 
 // `lines` is the text after its first line.
 pub(crate) fn check_lines(lines: &[u8]) -> Checked
-    ensures { λ r. ⌜ r ≡ summary 0 0 0 (linesOf (now (lines .entry))) ⌝ }
+    ensures { λ r. ⌜ r ≡ gathered 0 0 0 (mappingsBelow (now (lines .entry))) ⌝ }
 {
     let mut at = 0;
     let mut count = 0;

@@ -7,7 +7,7 @@ ghost use Rattle.records.specs.Records.{overwrite};
 ghost use Rattle.records.specs.Loading.{loaded};
 ghost use Rattle.bigendian.specs.Numbers.{bytesOf};
 ghost use Rattle.pair.specs.Format.{textBytes};
-ghost use Rattle.pair.specs.Read.{linesOf};
+ghost use Rattle.pair.specs.Read.{mappingsBelow};
 ghost use Rattle.pair.specs.Load.{linesTested, loadPairOf};
 ghost use Rattle.pair.specs.Write.{textFor, writingPair, wrotePair, writePairOf};
 use memory::Admission;
@@ -37,7 +37,7 @@ const TEXT_BYTES: usize = HEAD_BYTES + line::LINE_BYTES;
 
 // Reads by the lines behind a text's first one. Nothing is stored before every test has passed: each is over all lines.
 fn load_lines(mem: &mut [u16], bin: &[u8], lines: &[u8]) -> LoadAnswer
-    ensures { λ r. ⌜ loaded r (now (mem .exit)) ≡ linesTested (now (mem .entry)) (now (bin .entry)) (linesOf (now (lines .entry))) ⌝ }
+    ensures { λ r. ⌜ loaded r (now (mem .exit)) ≡ linesTested (now (mem .entry)) (now (bin .entry)) (mappingsBelow (now (lines .entry))) ⌝ }
 {
     let checked = check::check_lines(lines);
     let Checked::Listed { count, words, end } = checked else {
@@ -65,7 +65,7 @@ pub fn load_pair(mem: &mut [u16], bin: &[u8], cfg: &[u8]) -> LoadAnswer
         return LoadAnswer::Refused(Refusal::MemoryTooLong);
     }
     let head = HEAD;
-    let headed = line::starts_with(cfg, &head);
+    let headed = line::begins_with(cfg, &head);
     if headed {
         load_lines(mem, bin, &cfg[HEAD_BYTES..])
     } else {

@@ -4,7 +4,7 @@ ghost use mathlib.Core.Path.{_≡_};
 ghost use Prim.Native.Nat.{_+_, _≤_, _<_};
 ghost use lib.ListN.{length};
 ghost use Rattle.pair.specs.Format.{mappingLine, lineBytes};
-ghost use Rattle.pair.specs.Read.{numberAt, mappingAt, startsWith, frontOf};
+ghost use Rattle.pair.specs.Read.{numberAt, mappingAt, beginsWith, frontOf};
 
 // The words of the flat file from `first` to `last` go to the address `target` and on.
 pub(crate) struct Mapping {
@@ -88,8 +88,8 @@ pub(crate) fn mapping_at(lines: &[u8]) -> Mapping
 }
 
 // Whether a text begins with another.
-pub(crate) fn starts_with(text: &[u8], front: &[u8]) -> bool
-    ensures { λ r. ⌜ r ≡ startsWith (now (text .entry)) (now (front .entry)) ⌝ }
+pub(crate) fn begins_with(text: &[u8], front: &[u8]) -> bool
+    ensures { λ r. ⌜ r ≡ beginsWith (now (text .entry)) (now (front .entry)) ⌝ }
 {
     if text.len() < front.len() {
         return false;
@@ -120,7 +120,7 @@ pub(crate) fn read_front(lines: &[u8]) -> Front
         return Front::Malformed;
     }
     let printed = line_of(mapping);
-    let same = starts_with(lines, &printed);
+    let same = begins_with(lines, &printed);
     if same {
         Front::Line(mapping)
     } else {

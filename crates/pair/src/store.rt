@@ -6,8 +6,8 @@ ghost use lib.ListN.{length};
 ghost use Rattle.bigendian.specs.Numbers.{allWords};
 ghost use Rattle.records.specs.Records.{overwrite};
 ghost use Rattle.records.specs.Region.{wordsBetween};
-ghost use Rattle.pair.specs.Read.{linesOf};
-ghost use Rattle.pair.specs.inner.Pass.{targetEnd, Fits, placedLines};
+ghost use Rattle.pair.specs.Read.{mappingsBelow};
+ghost use Rattle.pair.specs.inner.Pass.{targetEnd, Fits, placedMappings};
 use crate::line;
 use crate::line::Mapping;
 
@@ -23,8 +23,8 @@ fn store_mapping(bin: &[u8], mapping: Mapping, mem: &mut [u16])
 
 // `lines` is the text after its first line, which the first pass found good, as it did the flat file and the memory.
 pub(crate) fn store_lines(lines: &[u8], bin: &[u8], mem: &mut [u16])
-    requires { ⌜ Fits (allWords (now bin)) (length (now mem)) (linesOf (now lines)) ⌝ }
-    ensures { λ r. ⌜ now (mem .exit) ≡ placedLines (allWords (now (bin .entry))) (now (mem .entry)) (linesOf (now (lines .entry))) ⌝ }
+    requires { ⌜ Fits (allWords (now bin)) (length (now mem)) (mappingsBelow (now lines)) ⌝ }
+    ensures { λ r. ⌜ now (mem .exit) ≡ placedMappings (allWords (now (bin .entry))) (now (mem .entry)) (mappingsBelow (now (lines .entry))) ⌝ }
 {
     let mut at = 0;
     while at < lines.len() {

@@ -9,8 +9,8 @@ use Rattle.records.specs.Region.{spanOf}
 use Rattle.pair.specs.declared.line.Mapping.{Mapping}
 use Rattle.pair.specs.declared.check.Checked.{Checked}
 use Rattle.pair.specs.declared.check.Checked.the-variants.{Listed, Malformed}
-use Rattle.pair.specs.Read.{Lines, listed, malformed}
-use Rattle.pair.specs.Load.{recordsOf, areThere}
+use Rattle.pair.specs.Read.{Mappings, listed, malformed}
+use Rattle.pair.specs.Load.{mappedRecords, areThere}
 
 -- the places behind a mapping's last word: in the flat file, and in memory
 abbrev pub fileEnd : Mapping → ℕ
@@ -29,16 +29,16 @@ targetEnds n [] = n
 targetEnds n (m ∷ ms) = targetEnds (max n (targetEnd m)) ms
 
 -- what the first pass answers after so many mappings that reach so far, if the rest is such lines
-abbrev pub summary : ℕ → ℕ → ℕ → Lines → Checked
-summary count words end (listed ms) = Listed (count + length ms) (fileEnds words ms) (targetEnds end ms)
-summary count words end malformed = Malformed
+abbrev pub gathered : ℕ → ℕ → ℕ → Mappings → Checked
+gathered count words end (listed ms) = Listed (count + length ms) (fileEnds words ms) (targetEnds end ms)
+gathered count words end malformed = Malformed
 
 -- the lines are good, the flat file has the words that they name, and what these words make lies within a memory of len words
-abbrev pub Fits : List ℕ → ℕ → Lines → Type 0
-Fits words len (listed ms) = (areThere (length words) ms ≡ true) × (allWithin len (recordsOf words ms) ≡ true)
+abbrev pub Fits : List ℕ → ℕ → Mappings → Type 0
+Fits words len (listed ms) = (areThere (length words) ms ≡ true) × (allWithin len (mappedRecords words ms) ≡ true)
 Fits words len malformed = ⊥
 
 -- the memory with what such lines put there
-abbrev pub placedLines : List ℕ → List ℕ → Lines → List ℕ
-placedLines words m (listed ms) = placed m (recordsOf words ms)
-placedLines words m malformed = m
+abbrev pub placedMappings : List ℕ → List ℕ → Mappings → List ℕ
+placedMappings words m (listed ms) = placed m (mappedRecords words ms)
+placedMappings words m malformed = m

@@ -1,6 +1,6 @@
 -- Each return is one of the tests of what stands at the front.
 use mathlib.Core.Path.{sym, _∙_, ap}
-use Rattle.pair.specs.Read.{startsWith}
+use Rattle.pair.specs.Read.{beginsWith}
 use Rattle.pair.specs.Format.{mappingLine}
 use Rattle.pair.proofs.FrontLaws.{front-blank, front-short, front-differs, front-above, front-line}
 use borrow.Author.Needs.{needs}
@@ -21,13 +21,13 @@ returns-4 c =
     let l = c .before .before .before .before .before .before .before .before .before .before .before .args .lines .now in
     rw (c .before .before .before .before .before .before .mapping-at .ensures)
     (front-line l (c .before .before .before .before .before .before .before .before .before .before .before .pre) (c .before .before .before .before .before .before .before .before .if1 .left) (rw (c .before .before .before .before .before .before .mapping-at .ensures) at (c .before .before .before .before .if3 .left))
-    (sym (c .before .starts-with .ensures ∙ ap (startsWith l) (c .before .before .before .line-of .ensures ∙ ap mappingLine (c .before .before .before .before .before .before .mapping-at .ensures))) ∙ c .if4 .taken))
+    (sym (c .before .begins-with .ensures ∙ ap (beginsWith l) (c .before .before .before .line-of .ensures ∙ ap mappingLine (c .before .before .before .before .before .before .mapping-at .ensures))) ∙ c .if4 .taken))
 
 returns-5 : tie.Need-returns-5
 returns-5 c =
     let l = c .before .before .before .before .before .before .before .before .before .before .before .args .lines .now in
     front-differs l (c .before .before .before .before .before .before .before .before .before .before .before .pre) (c .before .before .before .before .before .before .before .before .if1 .left) (rw (c .before .before .before .before .before .before .mapping-at .ensures) at (c .before .before .before .before .if3 .left))
-    (sym (c .before .starts-with .ensures ∙ ap (startsWith l) (c .before .before .before .line-of .ensures ∙ ap mappingLine (c .before .before .before .before .before .before .mapping-at .ensures))) ∙ c .if4 .left)
+    (sym (c .before .begins-with .ensures ∙ ap (beginsWith l) (c .before .before .before .line-of .ensures ∙ ap mappingLine (c .before .before .before .before .before .before .mapping-at .ensures))) ∙ c .if4 .left)
 
 pub read-front-spec : {M : Type 1} → statement M
 read-front-spec =
