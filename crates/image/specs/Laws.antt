@@ -58,6 +58,19 @@ pub record WrittenFile (head : ImageHead) (cut : ℕ) (m : List ℕ) (first last
   pub answer : writeWith head cut m first last room .answer ≡ answered (length file)
   pub bytes : take (length file) (writeWith head cut m first last room .room) ≡ file
 
+-- a law of a written file that is loaded: with every head that is read back, on every board that this names, or does not, at every cut and
+-- every limit that is not below it
+abbrev pub AtEveryCut : Bool → ((List ℕ → Opening) → ImageHead → ℕ → ℕ → ℕ → Type 0) → Type 0
+AtEveryCut here Law =
+    (opening : List ℕ → Opening) (head : ImageHead) →
+    ReadsBack opening head →
+    (board : ℕ) →
+    isFor head board ≡ here →
+    (cut limit : ℕ) →
+    0 < cut →
+    cut ≤ limit →
+    Law opening head board cut limit
+
 -- a written file that is loaded into any memory, on a board that its head names, lays the region's words there, or is refused by 1 or 11
 abbrev pub WrittenLaysAt : (List ℕ → Opening) → ImageHead → ℕ → ℕ → ℕ → Type 0
 WrittenLaysAt opening head board cut limit =
@@ -67,15 +80,7 @@ WrittenLaysAt opening head board cut limit =
     loadWith opening limit board n file ≡ laying (recordCount cut (spanOf first last)) n first (wordsBetween m first last)
 
 abbrev pub WrittenLays : Type 0
-WrittenLays =
-    (opening : List ℕ → Opening) (head : ImageHead) →
-    ReadsBack opening head →
-    (board : ℕ) →
-    isFor head board ≡ true →
-    (cut limit : ℕ) →
-    0 < cut →
-    cut ≤ limit →
-    WrittenLaysAt opening head board cut limit
+WrittenLays = AtEveryCut true WrittenLaysAt
 
 -- .. of document 01's own writer and loader: on the same board
 abbrev pub OwnLays : Type 0
@@ -93,15 +98,7 @@ RoundTripAt opening head board cut limit =
     PutBack (recordCount cut (spanOf first last)) m first last n (loadWith opening limit board n file)
 
 abbrev pub RoundTrip : Type 0
-RoundTrip =
-    (opening : List ℕ → Opening) (head : ImageHead) →
-    ReadsBack opening head →
-    (board : ℕ) →
-    isFor head board ≡ true →
-    (cut limit : ℕ) →
-    0 < cut →
-    cut ≤ limit →
-    RoundTripAt opening head board cut limit
+RoundTrip = AtEveryCut true RoundTripAt
 
 -- .. of document 01's own writer and loader: on the same board
 abbrev pub OwnRoundTrip : Type 0
@@ -123,15 +120,7 @@ OtherBoardAt opening head other cut limit =
     × (isRight (headSum head) (bodyOf limit (length m) (drop (headLength head) file)) ≡ true)
 
 abbrev pub OtherBoard : Type 0
-OtherBoard =
-    (opening : List ℕ → Opening) (head : ImageHead) →
-    ReadsBack opening head →
-    (other : ℕ) →
-    isFor head other ≡ false →
-    (cut limit : ℕ) →
-    0 < cut →
-    cut ≤ limit →
-    OtherBoardAt opening head other cut limit
+OtherBoard = AtEveryCut false OtherBoardAt
 
 -- .. of document 01's own writer and loader: written for one board, loaded for another
 abbrev pub OwnOtherBoard : Type 0
