@@ -6,7 +6,7 @@ use mathlib.Core.Logic.{_⊎_, inl, inr}
 use mathlib.Core.List.{List}
 use lib.ListN.{length, replicate}
 use Rattle.refusal.specs.declared.Refusal.the-variants.{MemoryTooLong, PastMemory}
-use Rattle.refusal.specs.Report.{Report, refused, answered}
+use Rattle.refusal.specs.Report.{refused, answered}
 use Rattle.refusal.proofs.ReportLaws.{no-answer}
 use Rattle.memory.specs.Memory.{tooLong}
 use Rattle.text.specs.Text.{digitOf, hexOf}
@@ -20,6 +20,7 @@ use Rattle.image.proofs.TripLaws.{own-lays}
 use Rattle.image.proofs.Examples.{document-file}
 use Rattle.pair.specs.Format.{mappingLine}
 use Rattle.pair.specs.Write.{textFor, writingPair, writePairOf}
+use Rattle.pair.proofs.TextLaws.{same-number}
 use Rattle.pair.proofs.TripLaws.{pair-lays}
 use Rattle.guarantees.specs.Pairs.{PairIsImage, BothWritten}
 
@@ -27,15 +28,12 @@ use Rattle.guarantees.specs.Pairs.{PairIsImage, BothWritten}
 laying-refused : (records : ℕ) (n : List ℕ) (a : ℕ) (ws : List ℕ) (r : ℕ) → laying records n a ws .answer ≡ refused r → (r ≡ 1) ⊎ (r ≡ 11)
 laying-refused records n a ws r = go (tooLong n) (isWithin (length n) a (length ws))
   where
-    number : {k : ℕ} → _≡_ {A = Report ℕ} (refused k) (refused r) → r ≡ k
-    number e = cc
-
     go : (u v : Bool)
         → cond u (refuseLoad n MemoryTooLong) (cond v (record { answer = answered records; memory = overwrite n a ws }) (refuseLoad n PastMemory)) .answer ≡ refused r
         → (r ≡ 1) ⊎ (r ≡ 11)
-    go true v e = inl (number e)
+    go true v e = inl (sym (same-number e))
     go false true e = no-answer (sym e)
-    go false false e = inr (number e)
+    go false false e = inr (sym (same-number e))
 
 pub pair-is-image : PairIsImage
 pair-is-image board m first last image file text f p n =

@@ -134,7 +134,8 @@ mappings-items cfg ms = go (beginsWith cfg headLine) refl
         record { items = k .items; good = k .good; is = begins-is cfg headLine s ∙ ap (λ (t : List ℕ). headLine ++ t) (k .is) }
     go false s e = let z : _≡_ {A = ℕ} 0 1 = cc in absurd (omega arith)
 
-same-number : {A : Type 0} {a b : ℕ} → _≡_ {A = Report A} (refused a) (refused b) → a ≡ b
+-- a refusal's number is its own
+pub same-number : {A : Type 0} {a b : ℕ} → _≡_ {A = Report A} (refused a) (refused b) → a ≡ b
 same-number e = cc
 
 -- Of good lines the answer is no 15, and counts them.
