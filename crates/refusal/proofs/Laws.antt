@@ -22,6 +22,8 @@ use Rattle.refusal.specs.declared.Refusal.the-variants.{
   BadMap,
   MalformedMapping,
   MissingFileWords,
+  TooManyEntries,
+  WrongSetLength,
 }
 use Rattle.refusal.specs.Refusals.{refusalNumber, NumbersApart, NumbersLow}
 
@@ -46,6 +48,8 @@ numbered n =
     ∷ BadMap
     ∷ MalformedMapping
     ∷ MissingFileWords
+    ∷ TooManyEntries
+    ∷ WrongSetLength
     ∷ [])
     n
     MemoryTooLong
@@ -68,6 +72,8 @@ found RoomTooSmall = refl
 found BadMap = refl
 found MalformedMapping = refl
 found MissingFileWords = refl
+found TooManyEntries = refl
+found WrongSetLength = refl
 
 pub numbers-apart : NumbersApart
 numbers-apart a b e = sym (found a) ∙ ap numbered e ∙ found b
@@ -89,3 +95,5 @@ numbers-low RoomTooSmall = lit< tt
 numbers-low BadMap = lit< tt
 numbers-low MalformedMapping = lit< tt
 numbers-low MissingFileWords = lit< tt
+numbers-low TooManyEntries = lit< tt
+numbers-low WrongSetLength = lit< tt

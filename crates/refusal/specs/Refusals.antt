@@ -19,6 +19,8 @@ use Rattle.refusal.specs.declared.Refusal.the-variants.{
   BadMap,
   MalformedMapping,
   MissingFileWords,
+  TooManyEntries,
+  WrongSetLength,
 }
 
 abbrev pub refusalNumber : Refusal → ℕ
@@ -54,6 +56,10 @@ refusalNumber BadMap = 14
 refusalNumber MalformedMapping = 15
 -- document 02: file words named that aren't there or an odd byte count
 refusalNumber MissingFileWords = 16
+-- document 02: entry list above 16
+refusalNumber TooManyEntries = 17
+-- document 02: a set buffer not of 1,024 words
+refusalNumber WrongSetLength = 18
 
 -- no two refusals share a number
 abbrev pub NumbersApart : Type 0

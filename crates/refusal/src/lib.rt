@@ -20,6 +20,8 @@ pub enum Refusal {
     BadMap,
     MalformedMapping,
     MissingFileWords,
+    TooManyEntries,
+    WrongSetLength,
 }
 
 // Document 01's number of a refusal.
@@ -43,5 +45,7 @@ pub fn number(refusal: Refusal) -> u16
         Refusal::BadMap => 14,
         Refusal::MalformedMapping => 15,
         Refusal::MissingFileWords => 16,
+        Refusal::TooManyEntries => 17,
+        Refusal::WrongSetLength => 18,
     }
 }

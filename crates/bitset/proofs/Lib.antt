@@ -1,0 +1,4 @@
+-- Laws of bits, of members and of counts.
+pub mod DigitLaws
+pub mod SetLaws
+pub mod CountLaws

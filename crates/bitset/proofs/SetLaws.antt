@@ -1,0 +1,104 @@
+-- Members of a set after an address was put in.
+use Prim.Native.Nat.{ℕ, zero, suc, _+_, _*_, _/_, _%_, _^_, _<_}
+use mathlib.Core.Path.{_≡_, refl, sym, ap, _∙_}
+use mathlib.Core.Bool.{Bool, true, false, cond}
+use mathlib.Core.List.{List, [], _∷_}
+use mathlib.Core.Logic.{_⊎_, inl, inr}
+use native.Mathlib.Nat.{zero-div, le-of-suc-le-suc}
+use native.Mathlib.Decide.{decLt, ℕ-discrete}
+use native.Mathlib.Omega.{arith}
+use lib.Dec.{eqb}
+use lib.ListN.{length, getD, set, replicate, length-set, getD-replicate, length-replicate, List·getD-eq-default}
+use lib.Seq.{getD-set-same, getD-set-other, set-out, ext-getD}
+use lib.Bits.{bitOr}
+use Rattle.bitset.specs.Bits.{contains, inserted, SetBuffer}
+use Rattle.bitset.specs.Laws.{MemberLaws, SameMembers}
+use Rattle.bitset.proofs.DigitLaws.{digit, digit-lt, digit-or, digit-pow-same, digit-pow-other, or-known, bit-count, same-digits}
+use borrow.Author.Tests.{eqb-true}
+
+pub inserted-length : (ws : List ℕ) (a : ℕ) → length (inserted ws a) ≡ length ws
+unfolding inserted
+inserted-length ws a = length-set ws (a / 64) _
+
+-- what was put in is there
+pub inserted-same : (ws : List ℕ) (a : ℕ) → a / 64 < length ws → contains (inserted ws a) a ≡ true
+unfolding contains inserted
+inserted-same ws a h =
+    let w : ℕ = getD ws (a / 64) 0 in
+    let e : digit (bitOr w (2 ^ (a % 64))) (a % 64) ≡ 1 =
+    digit-or w (2 ^ (a % 64)) (a % 64) ∙ rw (digit-pow-same (a % 64)) (omega (arith, digit-lt w (a % 64))) in
+    rw (getD-set-same ws (a / 64) (bitOr w (2 ^ (a % 64))) 0 h, e)
+
+-- each other address is there if it was
+other-bit : (w j k : ℕ) → (j ≡ k → ⊥) → digit (bitOr w (2 ^ j)) k ≡ digit w k
+other-bit w j k h = digit-or w (2 ^ j) k ∙ rw (digit-pow-other j k h) (omega arith)
+
+pub inserted-other : (ws : List ℕ) (a b : ℕ) → (a ≡ b → ⊥) → contains (inserted ws a) b ≡ contains ws b
+unfolding contains inserted
+inserted-other ws a b h = go (decLt (a / 64) (length ws)) (ℕ-discrete (a / 64) (b / 64))
+  where
+    v : ℕ
+    v = bitOr (getD ws (a / 64) 0) (2 ^ (a % 64))
+
+    go : Dec (a / 64 < length ws) → Dec (a / 64 ≡ b / 64) → eqb (digit (getD (set ws (a / 64) v) (b / 64) 0) (b % 64)) 1 ≡ eqb (digit (getD ws (b / 64) 0) (b % 64)) 1
+    go (no p) q = rw (set-out ws (a / 64) v (omega arith))
+    go (yes p) (no q) = rw (getD-set-other ws (a / 64) (b / 64) v 0 (λ e. q (sym e)))
+    go (yes p) (yes q) =
+        rw (← q, getD-set-same ws (a / 64) v 0 p, other-bit (getD ws (a / 64) 0) (a % 64) (b % 64) (λ e. h (omega arith)))
+
+-- nothing is in the empty set
+pub empty-has-none : (n a : ℕ) → contains (replicate n 0) a ≡ false
+unfolding contains
+empty-has-none n a = go (decLt (a / 64) n)
+  where
+    z : _≡_ {A = ℕ} (getD (replicate n 0) (a / 64) 0) 0 → eqb (digit (getD (replicate n 0) (a / 64) 0) (a % 64)) 1 ≡ false
+    z e = rw (e, zero-div (2 ^ (a % 64)))
+
+    go : Dec (a / 64 < n) → eqb (digit (getD (replicate n 0) (a / 64) 0) (a % 64)) 1 ≡ false
+    go (yes p) = z (getD-replicate n (a / 64) 0 0 p)
+    go (no p) = z (List·getD-eq-default (replicate n 0) 0 (rw (length-replicate {A = ℕ} n 0) (omega arith)))
+
+-- what is there already changes nothing
+set-getD : (ws : List ℕ) (i d : ℕ) → i < length ws → set ws i (getD ws i d) ≡ ws
+set-getD [] i d h = refl
+set-getD (w ∷ ws) zero d h = refl
+set-getD (w ∷ ws) (suc i) d h = ap {B = List ℕ} (λ r. w ∷ r) (set-getD ws i d (le-of-suc-le-suc h))
+
+pub inserted-known : (ws : List ℕ) (a : ℕ) → contains ws a ≡ true → inserted ws a ≡ ws
+unfolding contains inserted
+inserted-known ws a h = go (decLt (a / 64) (length ws))
+  where
+    go : Dec (a / 64 < length ws) → set ws (a / 64) (bitOr (getD ws (a / 64) 0) (2 ^ (a % 64))) ≡ ws
+    go (yes p) = rw (or-known (getD ws (a / 64) 0) (a % 64) (eqb-true _ 1 h)) (set-getD ws (a / 64) 0 p)
+    go (no p) = set-out ws (a / 64) _ (omega arith)
+
+pub inserted-kept : (ws : List ℕ) (a b : ℕ) → contains ws b ≡ true → contains (inserted ws a) b ≡ true
+inserted-kept ws a b h = go (ℕ-discrete a b)
+  where
+    go : Dec (a ≡ b) → contains (inserted ws a) b ≡ true
+    go (yes e) = ap (λ (l : List ℕ). contains l b) (inserted-known ws a (ap (contains ws) e ∙ h)) ∙ h
+    go (no e) = inserted-other ws a b e ∙ h
+
+pub inserted-only : (ws : List ℕ) (a b : ℕ) → contains (inserted ws a) b ≡ true → (b ≡ a) ⊎ (contains ws b ≡ true)
+inserted-only ws a b h = go (ℕ-discrete a b)
+  where
+    go : Dec (a ≡ b) → (b ≡ a) ⊎ (contains ws b ≡ true)
+    go (yes e) = inl (sym e)
+    go (no e) = inr (sym (inserted-other ws a b e) ∙ h)
+
+-- a set's words are fixed by its members
+same-bit : (w v : ℕ) → w < 2 → v < 2 → eqb w 1 ≡ eqb v 1 → w ≡ v
+same-bit w v p q e = sym (bit-count w p) ∙ ap (λ (b : Bool). cond b 1 0) e ∙ bit-count v q
+
+pub same-members : SameMembers
+unfolding contains
+same-members c d p q h =
+    ext-getD 0 c d (p .long ∙ sym (q .long))
+    (λ i b. same-digits 64 (getD c i 0) (getD d i 0) (p .words-fit i) (q .words-fit i)
+    (λ k l.
+    let e : (64 * i + k) / 64 ≡ i = omega arith in
+    let m : (64 * i + k) % 64 ≡ k = omega arith in
+    same-bit _ _ (digit-lt (getD c i 0) k) (digit-lt (getD d i 0) k) (rw (e, m) at (h (64 * i + k)))))
+
+pub member-laws : MemberLaws
+member-laws = record { same = inserted-same; other = inserted-other; known = inserted-known; none = empty-has-none }

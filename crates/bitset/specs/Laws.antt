@@ -1,0 +1,18 @@
+-- What holds of members and of counts.
+use Prim.Native.Nat.{ℕ, _/_, _<_, _≤_}
+use mathlib.Core.Path.{_≡_}
+use mathlib.Core.Bool.{Bool, true, false}
+use mathlib.Core.List.{List}
+use lib.ListN.{length, replicate}
+use Rattle.bitset.specs.Bits.{contains, inserted, countBelow, sizeOf, SetBuffer}
+
+-- what was put in is there, each other address is there if it was, and nothing is in the empty set
+pub record MemberLaws : Type 0 where
+  pub same : (words : List ℕ) (a : ℕ) → a / 64 < length words → contains (inserted words a) a ≡ true
+  pub other : (words : List ℕ) (a b : ℕ) → (a ≡ b → ⊥) → contains (inserted words a) b ≡ contains words b
+  pub known : (words : List ℕ) (a : ℕ) → contains words a ≡ true → inserted words a ≡ words
+  pub none : (n a : ℕ) → contains (replicate n 0) a ≡ false
+
+-- a set's words are fixed by its members
+abbrev pub SameMembers : Type 0
+SameMembers = (c d : List ℕ) → SetBuffer c → SetBuffer d → ((a : ℕ) → contains c a ≡ contains d a) → c ≡ d

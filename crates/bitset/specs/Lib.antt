@@ -1,0 +1,3 @@
+-- What a set of addresses promises.
+pub mod Bits
+pub mod Laws
