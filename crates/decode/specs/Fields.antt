@@ -60,7 +60,11 @@ conditionNumber b = b % 8
 abbrev pub isNegated : ℕ → Bool
 isNegated b = bit 3 b
 
--- NOPP: bit 3 negates "always", for both directions of bit 5
+-- B: "always", not negated, for both directions of bit 5
+abbrev pub isAlways : ℕ → Bool
+isAlways b = eqb (b % 32) 0
+
+-- NOPP: bit 3 negates "always", for both directions
 abbrev pub isNopp : ℕ → Bool
 isNopp b = eqb (b % 32) 8
 
@@ -71,6 +75,11 @@ pub data Return : Type 0 where
 
 unfoldable pub returnOf : ℕ → Return
 returnOf second = getD (returnIn 4 ∷ returnIn 5 ∷ returnIn 6 ∷ []) (second / 256 % 4) noReturn
+
+-- the jump is a JSR, which comes back
+abbrev pub hasReturn : Return → Bool
+hasReturn noReturn = false
+hasReturn (returnIn r) = true
 
 -- "bits 7-2 address bits 15-10"; "the third gives address bits 9-0"
 unfoldable pub jumpTarget : ℕ → ℕ → ℕ

@@ -3,7 +3,7 @@
 ghost use mathlib.Core.Path.{_≡_};
 ghost use Rattle.memory.specs.Bus.{busOn, readOf};
 ghost use Rattle.memory.specs.Near.{inFront};
-ghost use Rattle.decode.specs.Decode.{controlInstruction, statusInstruction, lowInstruction, instructionOf, unspecifiedForm, specified, decodeWords};
+ghost use Rattle.decode.specs.Decode.{controlInstruction, statusInstruction, lowInstruction, instructionOf, writesR7, unspecifiedForm, specified, decodeWords};
 ghost use Rattle.decode.specs.Laws.{Decodes};
 use memory::map::Board;
 use memory::map::Range;
@@ -105,6 +105,26 @@ pub fn instruction(w: u16) -> Instr
         Instr::Branch(w % 64)
     } else {
         Instr::Store(lower % 8, w % 8)
+    }
+}
+
+// The rows that write their result to R7, jumps and branches apart: by their d, but for RSWD, CMPR and CMP, which write no register.
+pub fn writes_r7(instr: Instr) -> bool
+    ensures { λ r. ⌜ r ≡ writesR7 instr ⌝ }
+{
+    match instr {
+        Instr::Hlt => false,
+        Instr::Control(_) => false,
+        Instr::Jump => false,
+        Instr::Single(s, d) => (d == 7) & (s != 7),
+        Instr::Gswd(_) => false,
+        Instr::Nop(_) => false,
+        Instr::Sin(_) => false,
+        Instr::Shift(_, _) => false,
+        Instr::Register(row, _, d) => (d == 7) & (row != 5),
+        Instr::Branch(_) => false,
+        Instr::Store(_, _) => false,
+        Instr::Read(row, _, d) => (d == 7) & (row != 13),
     }
 }
 
