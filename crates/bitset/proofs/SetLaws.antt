@@ -7,18 +7,29 @@ use mathlib.Core.Logic.{_⊎_, inl, inr}
 use native.Mathlib.Nat.{zero-div, le-of-suc-le-suc}
 use native.Mathlib.Decide.{decLt, ℕ-discrete}
 use native.Mathlib.Omega.{arith}
-use lib.Dec.{eqb}
+use lib.Dec.{eqb, lit<}
 use lib.ListN.{length, getD, set, replicate, length-set, getD-replicate, length-replicate, List·getD-eq-default}
 use lib.Seq.{getD-set-same, getD-set-other, set-out, ext-getD}
-use lib.Bits.{bitOr}
+use lib.Pow.{pow-lt}
+use lib.Bits.{bitOr, or-lt}
 use Rattle.bitset.specs.Bits.{contains, inserted, SetBuffer}
 use Rattle.bitset.specs.Laws.{MemberLaws, SameMembers}
 use Rattle.bitset.proofs.DigitLaws.{digit, digit-lt, digit-or, digit-pow-same, digit-pow-other, or-known, bit-count, same-digits}
 use borrow.Author.Tests.{eqb-true}
 
-pub inserted-length : (ws : List ℕ) (a : ℕ) → length (inserted ws a) ≡ length ws
+-- a set with an address more is as long, of words of 64 bits
+pub inserted-buffer : (ws : List ℕ) (a : ℕ) → SetBuffer ws → SetBuffer (inserted ws a)
 unfolding inserted
-inserted-length ws a = length-set ws (a / 64) _
+inserted-buffer ws a k = record { long = length-set ws (a / 64) _ ∙ k .long; words-fit = λ i. go i (decLt (a / 64) (length ws)) (ℕ-discrete i (a / 64)) }
+  where
+    v : ℕ
+    v = bitOr (getD ws (a / 64) 0) (2 ^ (a % 64))
+
+    go : (i : ℕ) → Dec (a / 64 < length ws) → Dec (i ≡ a / 64) → getD (set ws (a / 64) v) i 0 < 2 ^ 64
+    go i (no p) q = rw (set-out ws (a / 64) v (omega arith)) (k .words-fit i)
+    go i (yes p) (no q) = rw (getD-set-other ws (a / 64) i v 0 q) (k .words-fit i)
+    go i (yes p) (yes q) =
+        rw (q, getD-set-same ws (a / 64) v 0 p) (or-lt 64 (getD ws (a / 64) 0) (2 ^ (a % 64)) (k .words-fit (a / 64)) (pow-lt {i = a % 64} {j = 64} (omega arith)))
 
 -- what was put in is there
 pub inserted-same : (ws : List ℕ) (a : ℕ) → a / 64 < length ws → contains (inserted ws a) a ≡ true
@@ -46,17 +57,20 @@ inserted-other ws a b h = go (decLt (a / 64) (length ws)) (ℕ-discrete (a / 64)
     go (yes p) (yes q) =
         rw (← q, getD-set-same ws (a / 64) v 0 p, other-bit (getD ws (a / 64) 0) (a % 64) (b % 64) (λ e. h (omega arith)))
 
--- nothing is in the empty set
+-- every word of the empty set is 0, and nothing is in it
+empty-word : (n i : ℕ) → _≡_ {A = ℕ} (getD (replicate n 0) i 0) 0
+empty-word n i = go (decLt i n)
+  where
+    go : Dec (i < n) → _≡_ {A = ℕ} (getD (replicate n 0) i 0) 0
+    go (yes p) = getD-replicate n i 0 0 p
+    go (no p) = List·getD-eq-default (replicate n 0) 0 (rw (length-replicate {A = ℕ} n 0) (omega arith))
+
 pub empty-has-none : (n a : ℕ) → contains (replicate n 0) a ≡ false
 unfolding contains
-empty-has-none n a = go (decLt (a / 64) n)
-  where
-    z : _≡_ {A = ℕ} (getD (replicate n 0) (a / 64) 0) 0 → eqb (digit (getD (replicate n 0) (a / 64) 0) (a % 64)) 1 ≡ false
-    z e = rw (e, zero-div (2 ^ (a % 64)))
+empty-has-none n a = rw (empty-word n (a / 64), zero-div (2 ^ (a % 64)))
 
-    go : Dec (a / 64 < n) → eqb (digit (getD (replicate n 0) (a / 64) 0) (a % 64)) 1 ≡ false
-    go (yes p) = z (getD-replicate n (a / 64) 0 0 p)
-    go (no p) = z (List·getD-eq-default (replicate n 0) 0 (rw (length-replicate {A = ℕ} n 0) (omega arith)))
+pub empty-buffer : SetBuffer (replicate 1024 0)
+empty-buffer = record { long = length-replicate {A = ℕ} 1024 0; words-fit = λ i. rw (empty-word 1024 i) (lit< tt) }
 
 -- what is there already changes nothing
 set-getD : (ws : List ℕ) (i d : ℕ) → i < length ws → set ws i (getD ws i d) ≡ ws

@@ -1,0 +1,3 @@
+-- Definitions in the code's shape.
+pub mod Explore
+pub mod Found
