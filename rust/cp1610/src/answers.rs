@@ -84,6 +84,17 @@ pub struct Region {
     pub over: Option<u16>,
 }
 
+/// What following all paths answers beside the set.
+#[derive(Clone, Copy, Debug, PartialEq, Eq, Hash)]
+pub struct Reached {
+    /// How many addresses are in the set; one that is reached with either D counts once.
+    pub addresses: u32,
+    /// How many of them have an instruction that writes its result to R7, which ends the path; jumps and branches are none of these.
+    pub r7_writers: u32,
+    /// The lowest of those.
+    pub lowest_r7_writer: Option<u16>,
+}
+
 /// What the lister answers beside the text.
 #[derive(Clone, Copy, Debug, PartialEq, Eq, Hash)]
 pub struct Listed {

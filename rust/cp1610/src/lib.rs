@@ -37,14 +37,16 @@ mod board;
 #[cfg(feature = "library")]
 mod library;
 mod lines;
+mod reached;
 mod refusal;
 mod state;
 
-pub use answers::{Assembled, Cause, Event, Listed, Longest, PairLengths, Region, Run, Step, Wait};
+pub use answers::{Assembled, Cause, Event, Listed, Longest, PairLengths, Reached, Region, Run, Step, Wait};
 pub use board::{Board, Kind, Range};
 #[cfg(feature = "library")]
 pub use library::{Machine, assemble, calls, list, load, load_pair, region, wait, write, write_pair};
 pub use lines::Lines;
+pub use reached::ReachedSet;
 pub use refusal::Refusal;
 pub use state::{Mark, Register, STATE_WORDS, StateWords};
 
@@ -53,6 +55,12 @@ pub const LONGEST_MEMORY: usize = 65_536;
 
 /// The most ranges that a board may have.
 pub const MOST_RANGES: usize = 16;
+
+/// The most addresses that paths may be followed from.
+pub const MOST_ENTRIES: usize = 16;
+
+/// How many words a set of reached addresses has for either D, a bit for each address.
+pub const SET_WORDS: usize = 1_024;
 
 /// The most cycles that a run may be given.
 pub const HIGHEST_BUDGET: u32 = 1_000_000;

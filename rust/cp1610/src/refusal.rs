@@ -40,11 +40,15 @@ pub enum Refusal {
     MalformedMapping = 15,
     /// A mapping line that names words that the flat file lacks, or a flat file of an odd number of bytes.
     MissingFileWords = 16,
+    /// More than 16 entries, of which two may be equal.
+    TooManyEntries = 17,
+    /// A set of reached addresses that has not just 1,024 words for either D.
+    WrongSetLength = 18,
 }
 
 impl Refusal {
     /// Every refusal, number 1 first.
-    const TABLE: [Refusal; 16] = [
+    const TABLE: [Refusal; 18] = [
         Refusal::MemoryTooLong,
         Refusal::Halted,
         Refusal::Unspecified,
@@ -61,6 +65,8 @@ impl Refusal {
         Refusal::BadMap,
         Refusal::MalformedMapping,
         Refusal::MissingFileWords,
+        Refusal::TooManyEntries,
+        Refusal::WrongSetLength,
     ];
 
     /// Its number in document 01's table.
@@ -92,6 +98,8 @@ impl Refusal {
             Refusal::BadMap => "the board has more than 16 ranges, or one with its first address above its last",
             Refusal::MalformedMapping => "the mapping text is malformed",
             Refusal::MissingFileWords => "the flat file lacks a word that a line names, or has an odd number of bytes",
+            Refusal::TooManyEntries => "there are more than 16 entries",
+            Refusal::WrongSetLength => "the set of reached addresses has not 1,024 words for either D",
         }
     }
 }
@@ -114,7 +122,7 @@ mod tests {
             assert_eq!(usize::from(refusal.number()), place + 1);
             assert_eq!(Refusal::from_number(refusal.number()), Some(refusal));
         }
-        for number in [0, 17, 255] {
+        for number in [0, 19, 255] {
             assert_eq!(Refusal::from_number(number), None);
         }
     }

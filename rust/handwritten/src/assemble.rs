@@ -2,11 +2,8 @@
 
 use crate::hex::word_of;
 use crate::mnemonic::{CALLS, Form, JUMPS, MNEMONICS, Name, place_of_name};
-use crate::opcode::JUMP;
+use crate::opcode::{JUMP, NO_RETURN};
 use cp1610::{Assembled, Refusal};
-
-/// The return register's field in a jump's second word where there is none.
-const NO_RETURN: u16 = 3;
 
 /// The words of a line, with D as it stands before it.
 ///

@@ -3,8 +3,8 @@
 use crate::machine::Machine;
 use crate::memory::Bus;
 use crate::opcode::{
-    CLRC, DIRECT, DIS, EIS, IMMEDIATE, JUMP, NOT_TAKEN, OPCODES, R6, R7, SDBD, SETC, STACK, bit, destination, is_read,
-    is_unspecified, opcode_at, row, source,
+    CLRC, DIRECT, DIS, EIS, IMMEDIATE, JUMP, NO_RETURN, NOT_TAKEN, OPCODES, R6, R7, SDBD, SETC, STACK, bit,
+    branch_target, destination, is_read, is_unspecified, jump_at, opcode_at, row, source,
 };
 
 /// What a row's function answers: its cycles, with `STOP` added where a run can't go on. An unspecified form answers `STOP` alone, and
@@ -98,22 +98,20 @@ impl Machine {
         }
     }
 
-    /// "Second word: bits 9-8 return register R4, R5, R6 or none; bits 7-2 address bits 15-10; bits 1-0: 0 none, 1 sets I, 2
-    /// clears I".
+    /// 004: where to, which register gets the return address, and what becomes of I stand in the words behind the opcode.
     #[inline(always)]
     fn jump(&mut self, bus: &Bus, at: u16) {
-        let second = bus.peek(at.wrapping_add(1));
-        let third = bus.peek(at.wrapping_add(2));
-        match second >> 8 & 3 {
-            3 => {}
+        let jump = jump_at(bus.words(), at);
+        match jump.return_field {
+            NO_RETURN => {}
             n => self.r[4 + usize::from(n)] = self.r[R7],
         }
-        match second & 3 {
+        match jump.bits {
             1 => self.i = true,
             2 => self.i = false,
             _ => {}
         }
-        self.r[R7] = (second & 0xFC) << 8 | third & 0x3FF;
+        self.r[R7] = jump.target;
     }
 
     /// 008 to 03F: INCR DECR COMR NEGR ADCR, then GSWD, NOP and SIN, then RSWD.
@@ -170,12 +168,7 @@ impl Machine {
     fn branch(&mut self, bus: &Bus, at: u16, w: u16) -> bool {
         let taken = self.is_taken(bus.external, w);
         if taken {
-            let displacement = bus.peek(at.wrapping_add(1));
-            self.r[R7] = if bit(5, w) {
-                at.wrapping_add(1).wrapping_sub(displacement)
-            } else {
-                at.wrapping_add(2).wrapping_add(displacement)
-            };
+            self.r[R7] = branch_target(bus.words(), at, w);
         }
         taken
     }

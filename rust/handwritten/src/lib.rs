@@ -7,6 +7,7 @@
 
 mod alu;
 mod assemble;
+mod bits;
 mod board;
 mod bytes;
 mod execute;
@@ -19,6 +20,7 @@ mod meter;
 mod mnemonic;
 mod opcode;
 mod pair;
+mod reach;
 mod shift;
 mod step;
 
@@ -27,5 +29,6 @@ pub use board::Board;
 pub use image::{load, write};
 pub use list::list;
 pub use machine::Machine;
-pub use meter::{region, wait};
+pub use meter::{region, region_reached, wait};
 pub use pair::{load_pair, write_pair};
+pub use reach::reach;

@@ -4,7 +4,7 @@ use crate::board::Board;
 use crate::hex::digits_of;
 use crate::memory::Words;
 use crate::mnemonic::{CALLS, DECLE, Form, JUMPS, MNEMONICS, Name, PLACE_OF};
-use crate::opcode::{JUMP, SDBD, bit, destination, opcode_at, row_of, source};
+use crate::opcode::{JUMP, Jump, NO_RETURN, SDBD, UNSPECIFIED, bit, destination, jump_at, opcode_at, row_of, source};
 use cp1610::{Listed, Refusal, TEXT_ROOM};
 
 /// Puts the line of the instruction at `address` into `text`, with D as it stands there.
@@ -37,16 +37,15 @@ impl Line {
 
     /// Makes the line of a jump, and answers how many words it has. With bits 3 it is no jump but a word by itself.
     fn jump(&mut self, memory: Words, at: u16) -> u8 {
-        let (second, third) = (memory.peek(at.wrapping_add(1)), memory.peek(at.wrapping_add(2)));
-        let bits = usize::from(second & 3);
-        if bits == 3 {
+        let Jump { return_field, bits, target } = jump_at(memory, at);
+        if bits == UNSPECIFIED {
             self.name(MNEMONICS[DECLE].name).put(*b" $").hex(JUMP);
             return 1;
         }
-        let target = (second & 0xFC) << 8 | third & 0x3FF;
-        match usize::from(second >> 8 & 3) {
-            3 => self.name(MNEMONICS[JUMPS + bits].name).put(*b" $").hex(target),
-            field => self.name(MNEMONICS[CALLS + bits].name).register(4 + field).put(*b",$").hex(target),
+        let bits = usize::from(bits);
+        match return_field {
+            NO_RETURN => self.name(MNEMONICS[JUMPS + bits].name).put(*b" $").hex(target),
+            n => self.name(MNEMONICS[CALLS + bits].name).register(4 + usize::from(n)).put(*b",$").hex(target),
         };
         row_of(JUMP, false).words
     }

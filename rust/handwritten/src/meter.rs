@@ -1,9 +1,10 @@
 //! The wait meter: how long a request can go unheard from an address, or from any address of a region.
 
+use crate::bits::{bits_of, members};
 use crate::board::Board;
 use crate::memory::Words;
 use crate::opcode::{HLT, SDBD, is_unspecified, opcode_at, row_of};
-use cp1610::{HIGHEST_LIMIT, Longest, Refusal, Region, USUAL_LIMIT, Wait};
+use cp1610::{HIGHEST_LIMIT, Longest, ReachedSet, Refusal, Region, USUAL_LIMIT, Wait};
 
 /// How long a request waits that comes before the instruction at `address`.
 ///
@@ -22,12 +23,39 @@ pub fn wait(memory: &[u16], board: &Board, address: u16, limit: u16) -> Result<W
 /// Refused by 1, 14, 7 and 8, in this order.
 pub fn region(memory: &[u16], board: &Board, first: u16, last: u16, limit: u16) -> Result<Region, Refusal> {
     let words = Words::new(memory, board)?;
-    if first > last {
-        return Err(Refusal::FirstAboveLast);
-    }
-    let limit = limit_of(limit)?;
+    let limit = region_limit(first, last, limit)?;
+    Ok(walk_from(words, first..=last, limit))
+}
+
+/// The same from the addresses of `first..=last` alone that the set has with D clear.
+///
+/// # Errors
+///
+/// Refused by 1, 14, 7, 8 and 18, in this order; 18 for the words of either D.
+pub fn region_reached(
+    memory: &[u16],
+    board: &Board,
+    first: u16,
+    last: u16,
+    limit: u16,
+    set: &ReachedSet,
+) -> Result<Region, Refusal> {
+    let words = Words::new(memory, board)?;
+    let limit = region_limit(first, last, limit)?;
+    let (clear, _) = (bits_of(set.words(false))?, bits_of(set.words(true))?);
+    Ok(walk_from(words, members(clear, first, last), limit))
+}
+
+/// The limit of a region. Refused by 7 and 8, in this order.
+fn region_limit(first: u16, last: u16, limit: u16) -> Result<u16, Refusal> {
+    if first > last { Err(Refusal::FirstAboveLast) } else { limit_of(limit) }
+}
+
+/// What the walks from these starts, the lowest first, come to.
+#[inline(always)]
+fn walk_from(words: Words, starts: impl Iterator<Item = u16>, limit: u16) -> Region {
     let mut found = Region { longest: None, over: None };
-    for start in first..=last {
+    starts.for_each(|start| {
         let answer = walk(words, start, limit);
         if let Wait::Wait { cycles } = answer {
             if found.longest.is_none_or(|longest| longest.cycles < cycles) {
@@ -36,8 +64,8 @@ pub fn region(memory: &[u16], board: &Board, first: u16, last: u16, limit: u16) 
         } else if answer == Wait::Over {
             found.over = found.over.or(Some(start));
         }
-    }
-    Ok(found)
+    });
+    found
 }
 
 /// "Limit 1 to 4,096 cycles; 0 means 57".

@@ -67,8 +67,38 @@ pub(crate) const fn is_read(w: u16) -> bool {
 }
 
 /// 208 and 228. With bit 4 set, bit 3 belongs to an external input's number.
-const fn is_nopp(w: u16) -> bool {
+pub(crate) const fn is_nopp(w: u16) -> bool {
     w & 0x1F == 0x08
+}
+
+/// "Bit 5 clear: target = opcode address + 2 + displacement. Set: address + 1 - displacement".
+#[inline(always)]
+pub(crate) fn branch_target(words: Words, at: u16, w: u16) -> u16 {
+    let second = at.wrapping_add(1);
+    let displacement = words.peek(second);
+    if bit(5, w) { second.wrapping_sub(displacement) } else { second.wrapping_add(1).wrapping_add(displacement) }
+}
+
+/// What a jump's second and third word say.
+#[derive(Clone, Copy)]
+pub(crate) struct Jump {
+    /// "bits 9-8 return register R4, R5, R6 or none", which is `NO_RETURN`.
+    pub return_field: u16,
+    /// "bits 1-0: 0 none, 1 sets I, 2 clears I, 3 unspecified"
+    pub bits: u16,
+    pub target: u16,
+}
+
+/// The return field of a jump that leaves no return address.
+pub(crate) const NO_RETURN: u16 = 3;
+
+/// The bits of a jump that is unspecified.
+pub(crate) const UNSPECIFIED: u16 = 3;
+
+#[inline(always)]
+pub(crate) fn jump_at(words: Words, at: u16) -> Jump {
+    let (second, third) = (words.peek(at.wrapping_add(1)), words.peek(at.wrapping_add(2)));
+    Jump { return_field: second >> 8 & 3, bits: second & 3, target: (second & 0xFC) << 8 | third & 0x3FF }
 }
 
 /// The row of an opcode with D as it stands; a branch as taken.
@@ -97,29 +127,35 @@ pub(crate) const fn row(w: u16, d: bool) -> Row {
     }
 }
 
-/// The rows with D clear, and with D set, for where the opcode is not known while compiling.
-static ROWS: [[Row; OPCODES]; 2] = [rows(false), rows(true)];
+/// The table of what a `const fn` says of each opcode with D as it stands, for where the opcode is not known while compiling.
+macro_rules! by_opcode {
+    ($says:ident, $d:literal) => {{
+        let mut table = [$says(0, $d); OPCODES];
+        let mut w = 1;
+        while w < OPCODES {
+            table[w] = $says(w as u16, $d);
+            w += 1;
+        }
+        table
+    }};
+}
+pub(crate) use by_opcode;
+
+/// The rows with D clear, and with D set.
+static ROWS: [[Row; OPCODES]; 2] = [by_opcode!(row, false), by_opcode!(row, true)];
 
 #[inline(always)]
 pub(crate) fn row_of(w: u16, d: bool) -> Row {
     ROWS[usize::from(d)][usize::from(w)]
 }
 
-const fn rows(d: bool) -> [Row; OPCODES] {
-    let mut rows = [row(0, d); OPCODES];
-    let mut w = 1;
-    while w < OPCODES {
-        rows[w] = row(w as u16, d);
-        w += 1;
-    }
-    rows
-}
-
 /// The two unspecified forms: a jump whose second word ends in bits 3, and a stack read under D.
 #[inline(always)]
 pub(crate) fn is_unspecified(words: Words, at: u16, w: u16, d: bool) -> bool {
-    if w == JUMP {
-        return words.peek(at.wrapping_add(1)) & 3 == 3;
-    }
-    d && is_read(w) && source(w) == STACK
+    if w == JUMP { jump_at(words, at).bits == UNSPECIFIED } else { d && is_stack_read(w) }
+}
+
+/// A read through R6, which D makes unspecified.
+pub(crate) const fn is_stack_read(w: u16) -> bool {
+    is_read(w) && source(w) == STACK
 }
