@@ -149,10 +149,10 @@ pub(crate) fn row_of(w: u16, d: bool) -> Row {
     ROWS[usize::from(d)][usize::from(w)]
 }
 
-/// The two unspecified forms: a jump whose second word ends in bits 3, and a stack read under D.
+/// The two unspecified forms: a jump whose second word, which alone is read, ends in bits 3, and a stack read under D.
 #[inline(always)]
 pub(crate) fn is_unspecified(words: Words, at: u16, w: u16, d: bool) -> bool {
-    if w == JUMP { jump_at(words, at).bits == UNSPECIFIED } else { d && is_stack_read(w) }
+    if w == JUMP { words.peek(at.wrapping_add(1)) & 3 == UNSPECIFIED } else { d && is_stack_read(w) }
 }
 
 /// A read through R6, which D makes unspecified.
