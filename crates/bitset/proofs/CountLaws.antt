@@ -13,7 +13,7 @@ use lib.ListN.{length, getD, replicate}
 use lib.Pow.{shr-lt}
 use lib.Bits.{bitOr, or-lt}
 use lib.Count.{ones, ones-step}
-use Rattle.bitset.specs.Bits.{contains, inserted, inEither, isVacant, countBelow, sizeOf}
+use Rattle.bitset.specs.Bits.{contains, inserted, inEither, countBelow, sizeOf}
 use Rattle.bitset.proofs.DigitLaws.{digit, digit-lt, digit-or, digit-zero, digit-suc, bit-count, bit-either}
 use Rattle.bitset.proofs.SetLaws.{inserted-same, inserted-other, inserted-known, empty-has-none}
 
@@ -80,10 +80,6 @@ in-word one other i j h =
     let d : (64 * i + j) / 64 ≡ i = omega arith in
     let m : (64 * i + j) % 64 ≡ j = omega arith in
     rw (d, m, digit-or (getD one i 0) (getD other i 0) j) (sym (bit-either _ _ (digit-lt (getD one i 0) j) (digit-lt (getD other i 0) j)))
-
-pub vacant-word : (one other : List ℕ) (i j : ℕ) → isVacant one other i ≡ true → j < 64 → inEither one other (64 * i + j) ≡ false
-unfolding isVacant
-vacant-word one other i j e h = in-word one other i j h ∙ rw (eqb-true (bitOr (getD one i 0) (getD other i 0)) 0 e, zero-div (2 ^ j))
 
 -- a word of each set more
 pub count-word :

@@ -1,4 +1,5 @@
--- Laws of bits, of members and of counts.
+-- Laws of bits, of members, of counts and of the lowest member.
 pub mod DigitLaws
 pub mod SetLaws
 pub mod CountLaws
+pub mod LowestLaws

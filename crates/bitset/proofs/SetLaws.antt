@@ -1,7 +1,7 @@
 -- Members of a set after an address was put in.
 use Prim.Native.Nat.{ℕ, zero, suc, _+_, _*_, _/_, _%_, _^_, _<_}
 use mathlib.Core.Path.{_≡_, refl, sym, ap, _∙_}
-use mathlib.Core.Bool.{Bool, true, false, cond}
+use mathlib.Core.Bool.{Bool, true, false, cond, true≢false}
 use mathlib.Core.List.{List, [], _∷_}
 use mathlib.Core.Logic.{_⊎_, inl, inr}
 use native.Mathlib.Nat.{zero-div, le-of-suc-le-suc}
@@ -17,10 +17,15 @@ use Rattle.bitset.specs.Laws.{MemberLaws, SameMembers}
 use Rattle.bitset.proofs.DigitLaws.{digit, digit-lt, digit-or, digit-pow-same, digit-pow-other, or-known, bit-count, same-digits}
 use borrow.Author.Tests.{eqb-true}
 
--- a set with an address more is as long, of words of 64 bits
+-- a set with an address more is as long
+pub inserted-length : (ws : List ℕ) (a : ℕ) → length (inserted ws a) ≡ length ws
+unfolding inserted
+inserted-length ws a = length-set ws (a / 64) _
+
+-- .. of words of 64 bits
 pub inserted-buffer : (ws : List ℕ) (a : ℕ) → SetBuffer ws → SetBuffer (inserted ws a)
 unfolding inserted
-inserted-buffer ws a k = record { long = length-set ws (a / 64) _ ∙ k .long; words-fit = λ i. go i (decLt (a / 64) (length ws)) (ℕ-discrete i (a / 64)) }
+inserted-buffer ws a k = record { long = inserted-length ws a ∙ k .long; words-fit = λ i. go i (decLt (a / 64) (length ws)) (ℕ-discrete i (a / 64)) }
   where
     v : ℕ
     v = bitOr (getD ws (a / 64) 0) (2 ^ (a % 64))
@@ -71,6 +76,18 @@ empty-has-none n a = rw (empty-word n (a / 64), zero-div (2 ^ (a % 64)))
 
 pub empty-buffer : SetBuffer (replicate 1024 0)
 empty-buffer = record { long = length-replicate {A = ℕ} 1024 0; words-fit = λ i. rw (empty-word 1024 i) (lit< tt) }
+
+-- a member lies within the words
+pub member-within : (ws : List ℕ) (a : ℕ) → contains ws a ≡ true → a / 64 < length ws
+unfolding contains
+member-within ws a h = go (decLt (a / 64) (length ws))
+  where
+    go : Dec (a / 64 < length ws) → a / 64 < length ws
+    go (yes p) = p
+    go (no p) =
+        let e : getD ws (a / 64) 0 ≡ 0 = List·getD-eq-default ws 0 (omega arith) in
+        let z : true ≡ false = sym h ∙ rw (e, zero-div (2 ^ (a % 64))) in
+        absurd (true≢false z)
 
 -- what is there already changes nothing
 set-getD : (ws : List ℕ) (i d : ℕ) → i < length ws → set ws i (getD ws i d) ≡ ws

@@ -3,10 +3,11 @@ use Prim.Native.Nat.{ℕ, zero, suc, _+_, _/_, _%_, _^_, _<_}
 use mathlib.Core.Path.{_≡_}
 use mathlib.Core.Bool.{Bool, cond, _||_}
 use mathlib.Core.List.{List}
-use lib.Dec.{eqb}
 use lib.ListN.{length, getD, set}
 use lib.Bits.{bitOr}
 use Rattle.word.specs.Word.{bit}
+use Rattle.bitset.specs.declared.Lowest.{Lowest}
+use Rattle.bitset.specs.declared.Lowest.the-variants.{Nothing, At}
 
 -- "a set buffer .. of 1,024 words": one bit for each of 65,536 addresses
 abbrev pub setLength : ℕ
@@ -24,14 +25,30 @@ inserted words a = set words (a / 64) (bitOr (getD words (a / 64) 0) (2 ^ (a % 6
 abbrev pub inEither : List ℕ → List ℕ → ℕ → Bool
 inEither one other a = contains one a || contains other a
 
--- word i of both sets is 0: none of its addresses is in one set or the other
-unfoldable pub isVacant : List ℕ → List ℕ → ℕ → Bool
-isVacant one other i = eqb (bitOr (getD one i 0) (getD other i 0)) 0
-
 -- how many numbers below n are members
 unfoldable pub countBelow : (ℕ → Bool) → ℕ → ℕ
 countBelow f zero = 0
 countBelow f (suc n) = countBelow f n + cond (f n) 1 0
+
+-- "the lowest, or none"
+pub data LowestOrNone : Type 0 where
+  none : LowestOrNone
+  lowestAt : ℕ → LowestOrNone
+
+-- of numbers found in rising order, the first one stays
+abbrev pub keepLowest : LowestOrNone → ℕ → LowestOrNone
+keepLowest none a = lowestAt a
+keepLowest (lowestAt b) a = lowestAt b
+
+-- the lowest member below n
+unfoldable pub lowestBelow : (ℕ → Bool) → ℕ → LowestOrNone
+lowestBelow f zero = none
+lowestBelow f (suc n) = cond (f n) (keepLowest (lowestBelow f n) n) (lowestBelow f n)
+
+-- what the code's lowest stands for
+abbrev pub lowestOrNone : Lowest → LowestOrNone
+lowestOrNone Nothing = none
+lowestOrNone (At a) = lowestAt a
 
 -- how many addresses are in the set
 abbrev pub sizeOf : List ℕ → ℕ

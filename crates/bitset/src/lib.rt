@@ -2,10 +2,16 @@
 ghost use mathlib.Core.Path.{_≡_};
 ghost use mathlib.Core.Bool.{not};
 ghost use lib.ListN.{length, getD, replicate};
-ghost use Rattle.bitset.specs.Bits.{contains, inserted, inEither, isVacant, countBelow};
+ghost use Rattle.bitset.specs.Bits.{contains, inserted, inEither, countBelow, lowestOrNone, lowestBelow};
 
 // A set of all 65,536 addresses has so many words.
 pub const WORDS: usize = 1024;
+
+// The lowest member, or that there is none.
+pub enum Lowest {
+    Nothing,
+    At(u16),
+}
 
 fn word_at(words: &[u64], i: usize) -> u64
     ensures { λ r. ⌜ r ≡ getD (now (words .entry)) i 0 ⌝ }
@@ -44,13 +50,6 @@ pub fn reset(words: &mut [u64])
     }
 }
 
-// Whether none of the 64 addresses of a word is in one set or the other.
-pub fn is_vacant(one: &[u64], other: &[u64], i: usize) -> bool
-    ensures { λ r. ⌜ r ≡ isVacant (now (one .entry)) (now (other .entry)) i ⌝ }
-{
-    (word_at(one, i) | word_at(other, i)) == 0
-}
-
 // How many addresses are in one set or the other, each once.
 pub fn count_either(one: &[u64], other: &[u64]) -> u32
     ensures { λ r. ⌜ r ≡ countBelow (inEither (now (one .entry)) (now (other .entry))) 65536 ⌝ }
@@ -62,4 +61,19 @@ pub fn count_either(one: &[u64], other: &[u64]) -> u32
         i += 1;
     }
     count
+}
+
+// The lowest address in the set: the lowest bit of the first word that has one.
+pub fn find_lowest(words: &[u64]) -> Lowest
+    ensures { λ r. ⌜ lowestOrNone r ≡ lowestBelow (contains (now (words .entry))) 65536 ⌝ }
+{
+    let mut i: usize = 0;
+    while i < WORDS {
+        let word = word_at(words, i);
+        if word != 0 {
+            return Lowest::At((64 * i) as u16 + u64::trailing_zeros(word) as u16);
+        }
+        i += 1;
+    }
+    Lowest::Nothing
 }

@@ -9,18 +9,20 @@ use native.Mathlib.Omega.{arith}
 use borrow.Author.Count.{below-more}
 use borrow.Author.Tests.{not-true, not-false}
 use lib.ListN.{length, getD, replicate}
-use Rattle.bitset.specs.Bits.{contains, sizeOf}
-use Rattle.bitset.proofs.SetLaws.{empty-has-none, empty-buffer}
+use Rattle.bitset.specs.Bits.{contains, inserted, sizeOf}
+use Rattle.bitset.proofs.SetLaws.{inserted-same, empty-has-none, empty-buffer}
 use Rattle.bitset.proofs.CountLaws.{size-most}
 use Rattle.reach.specs.declared.Node.{Node}
 use Rattle.reach.specs.declared.ways.Ways.{Ways}
-use Rattle.reach.specs.declared.ways.Ways.the-variants.{End, One, Two}
-use Rattle.reach.specs.Ways.{nodeAt, clearAt}
+use Rattle.reach.specs.declared.ways.Ways.the-variants.{End, Writes, One, Two}
+use Rattle.reach.specs.Ways.{nodeAt, clearAt, successors, writesAt}
 use Rattle.reach.specs.Paths.{_∈_, PathTo, here, onward, Reached}
-use Rattle.reach.specs.inner.Explore.{nodesOf, marked, clearWith, setWith, Marks, Pushes, Expanded, Exploring, Idle, Grown}
+use Rattle.reach.specs.inner.Explore.{nodesOf, isWrite, marked, clearWith, setWith, Marks, Pushes, Expanded, Exploring, Idle, Grown}
+use Rattle.reach.specs.Summary.{isWriter}
 use Rattle.reach.specs.Reach.{ReachedSet}
-use Rattle.reach.proofs.MarkLaws.{mark-kept, mark-only, mark-self, mark-known-clear, mark-known-set, mark-more, mark-clear-held, mark-set-held}
-use Rattle.reach.proofs.ExploreLaws.{mark-busy, work-done, push-work, push-kept, push-only, push-self, push-held, push-paid, all-done, path-keeps, path-join}
+use Rattle.reach.proofs.SummaryLaws.{same-bool, writer-is, is-writer}
+use Rattle.reach.proofs.MarkLaws.{marked-within, mark-kept, mark-only, mark-self, mark-known-clear, mark-known-set, mark-more, mark-clear-held, mark-set-held}
+use Rattle.reach.proofs.ExploreLaws.{mark-busy, note-writer, work-done, push-work, push-kept, push-only, push-self, push-held, push-paid, all-done, path-keeps, path-join}
 
 -- nothing done yet
 pub grown-none : {next : Node → List Node} {clear set : List ℕ} {depth : ℕ} → Grown next clear set clear set depth depth
@@ -50,23 +52,34 @@ module _ {next : Node → List Node} {clear₀ set₀ clear set : List ℕ} {dep
       }
 
 -- a path is followed, and stands at a node
-pub record Following (next : Node → List Node) (clear₀ set₀ : List ℕ) (depth₀ : ℕ) (clear set stack : List ℕ) (depth : ℕ) (node : Node) : Type 0 where
+pub record Following (read : ℕ → ℕ) (clear₀ set₀ : List ℕ) (depth₀ : ℕ) (clear set writers stack : List ℕ) (depth : ℕ) (node : Node) : Type 0 where
   pub here-marked : marked clear set node ≡ true
-  pub work : Exploring next (λ x. x ≡ node) clear set stack depth
-  pub grown : Grown next clear₀ set₀ clear set depth₀ depth
+  pub work : Exploring read (λ x. x ≡ node) clear set writers stack depth
+  pub grown : Grown (successors read) clear₀ set₀ clear set depth₀ depth
 
 -- it is followed to its end
-pub record Followed (next : Node → List Node) (clear₀ set₀ : List ℕ) (depth₀ : ℕ) (clear set stack : List ℕ) (depth : ℕ) : Type 0 where
-  pub work : Exploring next Idle clear set stack depth
-  pub grown : Grown next clear₀ set₀ clear set depth₀ depth
+pub record Followed (read : ℕ → ℕ) (clear₀ set₀ : List ℕ) (depth₀ : ℕ) (clear set writers stack : List ℕ) (depth : ℕ) : Type 0 where
+  pub work : Exploring read Idle clear set writers stack depth
+  pub grown : Grown (successors read) clear₀ set₀ clear set depth₀ depth
 
-module _ {next : Node → List Node} {clear₀ set₀ clear set stack : List ℕ} {depth₀ depth : ℕ} {node : Node} (k : Following next clear₀ set₀ depth₀ clear set stack depth node) where
+-- a row that does not write R7 has nothing to be noted
+unnoted : {A : Type 0} {b : Bool} → b ≡ false → b ≡ true → A
+unnoted p q = let z : true ≡ false = sym q ∙ p in absurd (true≢false z)
+
+module _ {read : ℕ → ℕ} {clear₀ set₀ clear set writers stack : List ℕ} {depth₀ depth : ℕ} {node : Node}
+    (k : Following read clear₀ set₀ depth₀ clear set writers stack depth node) where
   -- the node leads nowhere else
-  pub follow-ends : Expanded next clear set node → Followed next clear₀ set₀ depth₀ clear set stack depth
-  follow-ends d = record { work = work-done (k .work) (λ x e. inr (subst (Expanded next clear set) (sym e) d)); grown = k .grown }
+  follow-ends : Expanded read clear set writers node → Followed read clear₀ set₀ depth₀ clear set writers stack depth
+  follow-ends d = record { work = work-done (k .work) (λ x e. inr (subst (Expanded read clear set writers) (sym e) d)); grown = k .grown }
+
+  -- its address is noted
+  follow-notes : writesAt read node ≡ true → Following read clear₀ set₀ depth₀ clear set (inserted writers (node .address)) stack depth node
+  follow-notes e = record { here-marked = k .here-marked; work = note-writer node (k .here-marked) e (k .work); grown = k .grown }
 
   -- a target is marked, and waits if it is new
-  pub follow-push : {clear′ stack′ : List ℕ} {depth′ t : ℕ} → Pushes clear clear′ stack stack′ depth depth′ t → clearAt t ∈ next node → Following next clear₀ set₀ depth₀ clear′ set stack′ depth′ node
+  follow-push :
+      {clear′ stack′ : List ℕ} {depth′ t : ℕ} → Pushes clear clear′ stack stack′ depth depth′ t → clearAt t ∈ successors read node →
+      Following read clear₀ set₀ depth₀ clear′ set writers stack′ depth′ node
   follow-push w m =
       record {
         here-marked = push-kept clear set w node (k .here-marked);
@@ -75,88 +88,112 @@ module _ {next : Node → List Node} {clear₀ set₀ clear set stack : List ℕ
       }
 
   -- the path goes on to a node n; what else the node leads to is marked
-  module _ {clear′ set′ : List ℕ} {n : Node} {new : Bool} (w : Marks clear set clear′ set′ n new) (e : n ∈ next node) (others : (x : Node) → x ∈ next node → (x ≡ n) ⊎ (marked clear set x ≡ true)) where
+  module _ {clear′ set′ : List ℕ} {n : Node} {new : Bool} (w : Marks clear set clear′ set′ n new) (quiet : writesAt read node ≡ false) (e : n ∈ successors read node)
+      (others : (x : Node) → x ∈ successors read node → (x ≡ n) ⊎ (marked clear set x ≡ true)) where
     -- n was marked before
-    pub follow-back : new ≡ false → Followed next clear₀ set₀ depth₀ clear′ set′ stack depth
+    follow-back : new ≡ false → Followed read clear₀ set₀ depth₀ clear′ set′ writers stack depth
     follow-back f =
         let q : marked clear set n ≡ true = not-false _ (sym (w .told) ∙ f) in
         rw (w .clear-is ∙ mark-known-clear clear set n q, w .set-is ∙ mark-known-set clear set n q)
-        (follow-ends (λ x m. ⊎-elim (λ i. ap (marked clear set) i ∙ q) (λ i. i) (others x m)))
+        (follow-ends (record { followed = λ x m. ⊎-elim (λ i. ap (marked clear set) i ∙ q) (λ i. i) (others x m); noted = λ i. unnoted quiet i }))
 
     -- n is new
-    pub follow-on : new ≡ true → Following next clear₀ set₀ depth₀ clear′ set′ stack depth n
+    follow-on : new ≡ true → Following read clear₀ set₀ depth₀ clear′ set′ writers stack depth n
     follow-on f =
         let l = k .work .clear-buffer .long in
         let p = k .work .set-buffer .long in
         let s = mark-self clear set n l p (w .fits) in
+        let done : Expanded read (clearWith clear n) (setWith set n) writers node =
+        record {
+          followed = λ y m. ⊎-elim (λ j. ap (marked (clearWith clear n) (setWith set n)) j ∙ s) (λ j. mark-kept clear set n y j) (others y m);
+          noted = λ i. unnoted quiet i;
+        } in
         rw (w .clear-is, w .set-is)
         (record {
           here-marked = s;
           work =
               work-done (mark-busy (k .work) n (w .fits))
-              (λ x b.
-              ⊎-elim
-              (λ i. inr (subst (Expanded next (clearWith clear n) (setWith set n)) (sym i) (λ y m. ⊎-elim (λ j. ap (marked (clearWith clear n) (setWith set n)) j ∙ s) (λ j. mark-kept clear set n y j) (others y m))))
-              (λ i. inl i)
-              b);
+              (λ x b. ⊎-elim (λ i. inr (subst (Expanded read (clearWith clear n) (setWith set n) writers) (sym i) done)) (λ i. inl i) b);
           grown = grown-mark (k .grown) l p node (k .here-marked) n (w .fits) e;
         })
 
-    pub follow-less : new ≡ true → 131072 - (sizeOf clear′ + sizeOf set′) < 131072 - (sizeOf clear + sizeOf set)
+    follow-less : new ≡ true → 131072 - (sizeOf clear′ + sizeOf set′) < 131072 - (sizeOf clear + sizeOf set)
     follow-less f =
         rw (w .clear-is, w .set-is)
         (omega (arith, mark-more clear set n (k .work .clear-buffer .long) (k .work .set-buffer .long) (w .fits) (not-true _ (sym (w .told) ∙ f)), size-most (clearWith clear n), size-most (setWith set n)))
 
--- a turn of the loop by what the node leads to: nothing, a node, a node and a target
-module _ {next : Node → List Node} {clear₀ set₀ clear set stack : List ℕ} {depth₀ depth : ℕ} {node : Node} {ways : Ways}
-    (k : Following next clear₀ set₀ depth₀ clear set stack depth node) (e : nodesOf ways ≡ next node) where
-  pub turn-end : ways ≡ End → Followed next clear₀ set₀ depth₀ clear set stack depth
-  turn-end q = follow-ends k (λ x m. absurd (List·Memᴰ·not-nil (subst (λ (l : List Node). x ∈ l) (sym e ∙ ap nodesOf q) m)))
+-- a turn of the loop by the code's ways from the node: none, a write to R7, a node, a node and a target
+pub record Turn (read : ℕ → ℕ) (node : Node) (ways : Ways) : Type 0 where
+  pub nodes : nodesOf ways ≡ successors read node
+  pub writes : isWrite ways ≡ writesAt read node
+
+module _ {read : ℕ → ℕ} {clear₀ set₀ clear set writers stack : List ℕ} {depth₀ depth : ℕ} {node : Node} {ways : Ways}
+    (k : Following read clear₀ set₀ depth₀ clear set writers stack depth node) (e : Turn read node ways) where
+  -- it leads nowhere
+  nowhere : nodesOf ways ≡ [] → (x : Node) → x ∈ successors read node → marked clear set x ≡ true
+  nowhere q x m = absurd (List·Memᴰ·not-nil (subst (λ (l : List Node). x ∈ l) (sym (e .nodes) ∙ q) m))
+
+  pub turn-end : ways ≡ End → Followed read clear₀ set₀ depth₀ clear set writers stack depth
+  turn-end q = follow-ends k (record { followed = nowhere (ap nodesOf q); noted = λ i. unnoted (sym (e .writes) ∙ ap isWrite q) i })
+
+  pub turn-write : {writers′ : List ℕ} → ways ≡ Writes → writers′ ≡ inserted writers (node .address) → Followed read clear₀ set₀ depth₀ clear set writers′ stack depth
+  turn-write q p =
+      let w = k .work in
+      let h = marked-within clear set node (w .clear-buffer .long) (w .set-buffer .long) (k .here-marked) in
+      rw p
+      (follow-ends (follow-notes k (sym (e .writes) ∙ ap isWrite q))
+      (record { followed = nowhere (ap nodesOf q); noted = λ i. inserted-same writers (node .address) (omega (arith, h, w .writers-long)) }))
 
   module _ {n : Node} (q : ways ≡ One n) where
-    one : next node ≡ n ∷ []
-    one = sym e ∙ ap nodesOf q
+    one : successors read node ≡ n ∷ []
+    one = sym (e .nodes) ∙ ap nodesOf q
 
-    one-in : n ∈ next node
+    one-quiet : writesAt read node ≡ false
+    one-quiet = sym (e .writes) ∙ ap isWrite q
+
+    one-in : n ∈ successors read node
     one-in = rw one (List·Memᴰ·head refl)
 
-    one-others : (x : Node) → x ∈ next node → (x ≡ n) ⊎ (marked clear set x ≡ true)
+    one-others : (x : Node) → x ∈ successors read node → (x ≡ n) ⊎ (marked clear set x ≡ true)
     one-others x m = inl (List·Memᴰ·eq-of-singleton (subst (λ (l : List Node). x ∈ l) one m))
 
     module _ {clear′ set′ : List ℕ} {new : Bool} (w : Marks clear set clear′ set′ n new) where
-      pub turn-back : new ≡ false → Followed next clear₀ set₀ depth₀ clear′ set′ stack depth
-      turn-back f = follow-back k w one-in one-others f
+      pub turn-back : new ≡ false → Followed read clear₀ set₀ depth₀ clear′ set′ writers stack depth
+      turn-back f = follow-back k w one-quiet one-in one-others f
 
-      pub turn-on : new ≡ true → Following next clear₀ set₀ depth₀ clear′ set′ stack depth n
-      turn-on f = follow-on k w one-in one-others f
+      pub turn-on : new ≡ true → Following read clear₀ set₀ depth₀ clear′ set′ writers stack depth n
+      turn-on f = follow-on k w one-quiet one-in one-others f
 
       pub turn-less : new ≡ true → 131072 - (sizeOf clear′ + sizeOf set′) < 131072 - (sizeOf clear + sizeOf set)
-      turn-less f = follow-less k w one-in one-others f
+      turn-less f = follow-less k w one-quiet one-in one-others f
 
   module _ {n : Node} {t : ℕ} (q : ways ≡ Two n t) {clear₁ stack₁ : List ℕ} {depth₁ : ℕ} (p : Pushes clear clear₁ stack stack₁ depth depth₁ t) where
-    two : next node ≡ n ∷ clearAt t ∷ []
-    two = sym e ∙ ap nodesOf q
+    two : successors read node ≡ n ∷ clearAt t ∷ []
+    two = sym (e .nodes) ∙ ap nodesOf q
 
-    two-in : n ∈ next node
+    two-quiet : writesAt read node ≡ false
+    two-quiet = sym (e .writes) ∙ ap isWrite q
+
+    two-in : n ∈ successors read node
     two-in = rw two (List·Memᴰ·head refl)
 
-    pushed : Following next clear₀ set₀ depth₀ clear₁ set stack₁ depth₁ node
+    pushed : Following read clear₀ set₀ depth₀ clear₁ set writers stack₁ depth₁ node
     pushed = follow-push k p (rw two (List·Memᴰ·tail (List·Memᴰ·head refl)))
 
-    two-others : (x : Node) → x ∈ next node → (x ≡ n) ⊎ (marked clear₁ set x ≡ true)
+    two-others : (x : Node) → x ∈ successors read node → (x ≡ n) ⊎ (marked clear₁ set x ≡ true)
     two-others x m =
         ⊎-elim (λ i. inl i) (λ i. inr (ap (marked clear₁ set) (List·Memᴰ·eq-of-singleton i) ∙ push-self clear set p (k .work .clear-buffer .long) (k .work .set-buffer .long)))
         (List·Memᴰ·cases-cons (subst (λ (l : List Node). x ∈ l) two m))
 
     module _ {clear′ set′ : List ℕ} {new : Bool} (w : Marks clear₁ set clear′ set′ n new) where
-      pub fork-back : new ≡ false → Followed next clear₀ set₀ depth₀ clear′ set′ stack₁ depth₁
-      fork-back f = follow-back pushed w two-in two-others f
+      pub fork-back : new ≡ false → Followed read clear₀ set₀ depth₀ clear′ set′ writers stack₁ depth₁
+      fork-back f = follow-back pushed w two-quiet two-in two-others f
 
-      pub fork-on : new ≡ true → Following next clear₀ set₀ depth₀ clear′ set′ stack₁ depth₁ n
-      fork-on f = follow-on pushed w two-in two-others f
+      pub fork-on : new ≡ true → Following read clear₀ set₀ depth₀ clear′ set′ writers stack₁ depth₁ n
+      fork-on f = follow-on pushed w two-quiet two-in two-others f
 
       pub fork-less : new ≡ true → 131072 - (sizeOf clear′ + sizeOf set′) < 131072 - (sizeOf clear + sizeOf set)
-      fork-less f = omega (arith, follow-less pushed w two-in two-others f, push-held clear set p (k .work .clear-buffer .long) (k .work .set-buffer .long))
+      fork-less f = omega (arith, follow-less pushed w two-quiet two-in two-others f, push-held clear set p (k .work .clear-buffer .long) (k .work .set-buffer .long))
 
 -- an element by its place, and the place of an element
 at-∈ : (l : List ℕ) (i : ℕ) → i < length l → getD l i 0 ∈ l
@@ -169,67 +206,86 @@ at-∈ (x ∷ l) (suc i) h = List·Memᴰ·tail (at-∈ l i (le-of-suc-le-suc h)
 ∈-at (List·Memᴰ·tail m) = let w = ∈-at m in (suc (w .0), suc-le-suc (w .1), w .2)
 
 -- the exploration after i entries: nothing but reached nodes is marked, and the entries up to there are
-pub record Explored (next : Node → List Node) (entries : List ℕ) (i : ℕ) (clear set stack : List ℕ) (depth : ℕ) : Type 0 where
-  pub work : Exploring next Idle clear set stack depth
-  pub sound : (n : Node) → marked clear set n ≡ true → Reached next entries n
+pub record Explored (read : ℕ → ℕ) (entries : List ℕ) (i : ℕ) (clear set writers stack : List ℕ) (depth : ℕ) : Type 0 where
+  pub work : Exploring read Idle clear set writers stack depth
+  pub led : (n : Node) → marked clear set n ≡ true → Reached (successors read) entries n
   pub begun : (j : ℕ) → j < i → marked clear set (clearAt (getD entries j 0)) ≡ true
 
 none-marked : (n : Node) (d : Bool) → cond d (contains (replicate 1024 0) (n .address)) (contains (replicate 1024 0) (n .address)) ≡ true → ⊥
-none-marked n true h = let z : true ≡ false = sym h ∙ empty-has-none 1024 (n .address) in true≢false z
-none-marked n false h = let z : true ≡ false = sym h ∙ empty-has-none 1024 (n .address) in true≢false z
+none-marked n true h = unnoted (empty-has-none 1024 (n .address)) h
+none-marked n false h = unnoted (empty-has-none 1024 (n .address)) h
 
-pub explored-none : {next : Node → List Node} {entries stack : List ℕ} → length stack ≡ 65536 → Explored next entries 0 (replicate 1024 0) (replicate 1024 0) stack 0
+pub explored-none : {read : ℕ → ℕ} {entries stack : List ℕ} → length stack ≡ 65536 → Explored read entries 0 (replicate 1024 0) (replicate 1024 0) (replicate 1024 0) stack 0
 explored-none l =
     record {
       work =
           record {
             clear-buffer = empty-buffer;
             set-buffer = empty-buffer;
-            stack-words = l;
+            writers-long = empty-buffer .long;
+            stack-long = l;
             room = omega arith;
             stacked = λ n w. absurd (omega (arith, w .1));
             closed = λ n h. absurd (none-marked n (n .double) h);
+            sound = λ a h. unnoted (empty-has-none 1024 a) h;
           };
-      sound = λ n h. absurd (none-marked n (n .double) h);
+      led = λ n h. absurd (none-marked n (n .double) h);
       begun = λ j h. absurd (omega arith);
     }
 
-module _ {next : Node → List Node} {entries clear set stack : List ℕ} {i depth : ℕ} (k : Explored next entries i clear set stack depth) where
+module _ {read : ℕ → ℕ} {entries clear set writers stack : List ℕ} {i depth : ℕ} (k : Explored read entries i clear set writers stack depth) where
   -- one entry more
-  pub explored-entry : {clear′ stack′ : List ℕ} {depth′ : ℕ} → i < length entries → Pushes clear clear′ stack stack′ depth depth′ (getD entries i 0) → Explored next entries (i + 1) clear′ set stack′ depth′
+  pub explored-entry :
+      {clear′ stack′ : List ℕ} {depth′ : ℕ} → i < length entries → Pushes clear clear′ stack stack′ depth depth′ (getD entries i 0) →
+      Explored read entries (i + 1) clear′ set writers stack′ depth′
   explored-entry {clear′} h w =
       record {
         work = push-work (k .work) w;
-        sound = λ n q. ⊎-elim (λ e. record { entry = getD entries i 0; listed = at-∈ entries i h; path = subst (PathTo next (clearAt (getD entries i 0))) (sym e) here }) (λ p. k .sound n p) (push-only clear set w n q);
+        led =
+            λ n q.
+            ⊎-elim
+            (λ e. record { entry = getD entries i 0; listed = at-∈ entries i h; path = subst (PathTo (successors read) (clearAt (getD entries i 0))) (sym e) here })
+            (λ p. k .led n p)
+            (push-only clear set w n q);
         begun =
             below-more (λ j. marked clear′ set (clearAt (getD entries j 0)) ≡ true) i (λ j p. push-kept clear set w (clearAt (getD entries j 0)) (k .begun j p))
             (push-self clear set w (k .work .clear-buffer .long) (k .work .set-buffer .long));
       }
 
   -- one path more is followed
-  pub explored-path : {clear′ set′ stack′ : List ℕ} {depth′ : ℕ} → Exploring next Idle clear′ set′ stack′ depth′ → Grown next clear set clear′ set′ (depth - 1) depth′ → Explored next entries i clear′ set′ stack′ depth′
+  pub explored-path :
+      {clear′ set′ writers′ stack′ : List ℕ} {depth′ : ℕ} → Exploring read Idle clear′ set′ writers′ stack′ depth′ →
+      Grown (successors read) clear set clear′ set′ (depth - 1) depth′ → Explored read entries i clear′ set′ writers′ stack′ depth′
   explored-path w g =
       record {
         work = w;
-        sound = λ n q. let m = g .led n q in let r = k .sound (m .0) (m .1) in record { entry = r .entry; listed = r .listed; path = path-join (r .path) (m .2) };
+        led = λ n q. let m = g .led n q in let r = k .led (m .0) (m .1) in record { entry = r .entry; listed = r .listed; path = path-join (r .path) (m .2) };
         begun = λ j h. g .kept (clearAt (getD entries j 0)) (k .begun j h);
       }
 
-  pub explored-less : {clear′ set′ : List ℕ} {depth′ : ℕ} → 0 < depth → Grown next clear set clear′ set′ (depth - 1) depth′ → 131072 - (sizeOf clear′ + sizeOf set′) + depth′ < 131072 - (sizeOf clear + sizeOf set) + depth
+  pub explored-less :
+      {clear′ set′ : List ℕ} {depth′ : ℕ} → 0 < depth → Grown (successors read) clear set clear′ set′ (depth - 1) depth′ →
+      131072 - (sizeOf clear′ + sizeOf set′) + depth′ < 131072 - (sizeOf clear + sizeOf set) + depth
   explored-less {clear′} {set′} h g = omega (arith, g .paid, size-most clear′, size-most set′)
 
-  -- nothing waits any more
-  pub explored-all : length entries ≤ i → depth ≡ 0 → ReachedSet next entries clear set
+  -- nothing waits any more: the marked nodes are the reached ones
+  pub explored-all : length entries ≤ i → depth ≡ 0 → ReachedSet (successors read) entries clear set
   explored-all l e =
       record {
         clear-buffer = k .work .clear-buffer;
         set-buffer = k .work .set-buffer;
-        in-clear = λ a. (λ h. k .sound (nodeAt a false) h, λ r. back (nodeAt a false) r);
-        in-set = λ a. (λ h. k .sound (nodeAt a true) h, λ r. back (nodeAt a true) r);
+        in-clear = λ a. (λ h. k .led (nodeAt a false) h, λ r. back (nodeAt a false) r);
+        in-set = λ a. (λ h. k .led (nodeAt a true) h, λ r. back (nodeAt a true) r);
       }
     where
-      back : (n : Node) → Reached next entries n → marked clear set n ≡ true
+      back : (n : Node) → Reached (successors read) entries n → marked clear set n ≡ true
       back n r =
           let w = ∈-at (r .listed) in
           path-keeps (λ x. marked clear set x ≡ true) (subst (λ (a : ℕ). marked clear set (clearAt a) ≡ true) (w .2) (k .begun (w .0) (omega (arith, w .1))))
-          (λ x y p m. all-done (k .work) e x p y m) (r .path)
+          (λ x y p m. all-done (k .work) e x p .followed y m) (r .path)
+
+  -- .. and the noted addresses those of the rows there that write R7
+  pub explored-writers : depth ≡ 0 → (a : ℕ) → contains writers a ≡ isWriter read clear set a
+  explored-writers e a =
+      same-bool (contains writers a) (isWriter read clear set a) (λ h. let w = k .work .sound a h in writer-is read clear set a (w .0) (w .1) (w .2))
+      (λ h. let w = is-writer read clear set a h in all-done (k .work) e (nodeAt a (w .0)) (w .1) .noted (w .2))

@@ -1,7 +1,7 @@
 -- Laws of the exploration and of the summary.
-pub mod WayLaws
 pub mod MarkLaws
 pub mod ExploreLaws
+pub mod SummaryLaws
 pub mod FollowLaws
-pub mod TotalLaws
+pub mod WayLaws
 pub mod ReachLaws

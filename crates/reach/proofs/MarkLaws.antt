@@ -7,7 +7,7 @@ use mathlib.Core.Logic.{_⊎_, inl, inr, ⊎-elim}
 use native.Mathlib.Omega.{arith}
 use lib.ListN.{length}
 use Rattle.bitset.specs.Bits.{sizeOf, SetBuffer}
-use Rattle.bitset.proofs.SetLaws.{inserted-same, inserted-known, inserted-kept, inserted-only, inserted-buffer}
+use Rattle.bitset.proofs.SetLaws.{inserted-same, inserted-known, inserted-kept, inserted-only, inserted-buffer, member-within}
 use Rattle.bitset.proofs.CountLaws.{size-new, size-held}
 use Rattle.reach.specs.declared.Node.{Node}
 use Rattle.reach.specs.Ways.{nodeAt}
@@ -29,6 +29,10 @@ module _ (clear set : List ℕ) (a : ℕ) where
   only true b false h = inr h
   only false b true h = inr h
   only false b false h = ⊎-elim (λ q. inl (ap (λ (x : ℕ). nodeAt x false) q)) (λ q. inr q) (inserted-only clear a b h)
+
+  within : (d : Bool) → length clear ≡ 1024 → length set ≡ 1024 → marked clear set (nodeAt a d) ≡ true → a < 65536
+  within true l p h = omega (arith, member-within set a h)
+  within false l p h = omega (arith, member-within clear a h)
 
   clear-same : (d : Bool) → marked clear set (nodeAt a d) ≡ true → clearWith clear (nodeAt a d) ≡ clear
   clear-same true h = refl
@@ -66,6 +70,10 @@ module _ (clear set : List ℕ) (n : Node) where
 
   pub mark-only : (x : Node) → marked (clearWith clear n) (setWith set n) x ≡ true → (x ≡ n) ⊎ (marked clear set x ≡ true)
   mark-only x h = only clear set (n .address) (n .double) (x .address) (x .double) h
+
+  -- only addresses are marked
+  pub marked-within : length clear ≡ 1024 → length set ≡ 1024 → marked clear set n ≡ true → n .address < 65536
+  marked-within l p h = within clear set (n .address) (n .double) l p h
 
   pub mark-known-clear : marked clear set n ≡ true → clearWith clear n ≡ clear
   mark-known-clear h = clear-same clear set (n .address) (n .double) h

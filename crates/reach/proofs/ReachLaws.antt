@@ -11,11 +11,7 @@ use Rattle.reach.specs.Ways.{nodeAt, writesAt}
 use Rattle.reach.specs.Paths.{Reached}
 use Rattle.reach.specs.Reach.{ReachedSet}
 use Rattle.reach.specs.Laws.{ReachedSetIsOne}
-
-same-bool : (b c : Bool) → (b ≡ true → c ≡ true) → (c ≡ true → b ≡ true) → b ≡ c
-same-bool true c p q = sym (p refl)
-same-bool false true p q = q refl
-same-bool false false p q = refl
+use Rattle.reach.proofs.SummaryLaws.{same-bool}
 
 -- two buffers with the same members
 one : {R : ℕ → Type 0} (c d : List ℕ) → SetBuffer c → SetBuffer d → ((a : ℕ) → (contains c a ≡ true) ↔ R a) → ((a : ℕ) → (contains d a ≡ true) ↔ R a) → c ≡ d

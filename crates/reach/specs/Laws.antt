@@ -1,7 +1,7 @@
 -- What holds of the reached set: the paths fix its buffers, and its summary counts what the paths lead to.
-use Prim.Native.Nat.{ℕ, _<_}
+use Prim.Native.Nat.{ℕ}
 use mathlib.Core.Path.{_≡_}
-use mathlib.Core.Bool.{Bool, true, false}
+use mathlib.Core.Bool.{Bool, true}
 use mathlib.Core.List.{List}
 use mathlib.Core.Logic.{_↔_}
 use Rattle.refusal.specs.Report.{Report, OneToOne}
@@ -10,7 +10,7 @@ use Rattle.bitset.specs.Bits.{inEither}
 use Rattle.reach.specs.declared.Node.{Node}
 use Rattle.reach.specs.Ways.{nodeAt, writesAt}
 use Rattle.reach.specs.Paths.{Reached}
-use Rattle.reach.specs.Summary.{LowestOrNone, none, lowestAt, lowestBelow, isWriter, SetSummary}
+use Rattle.reach.specs.Summary.{isWriter, SetSummary}
 use Rattle.reach.specs.Answer.{reachReport}
 use Rattle.reach.specs.Reach.{ReachedSet, Reaches}
 
@@ -49,12 +49,7 @@ pub record ReachedWriter (read : ℕ → ℕ) (next : Node → List Node) (entri
   pub reached : Reached next entries (nodeAt a double)
   pub writes : writesAt read (nodeAt a double) ≡ true
 
--- "the lowest, or none": it has the property and none below it has; or none below n has
-abbrev pub IsLowest : (ℕ → Bool) → ℕ → LowestOrNone → Type 0
-IsLowest f n none = (a : ℕ) → a < n → f a ≡ false
-IsLowest f n (lowestAt a) = (a < n) × (f a ≡ true) × ((b : ℕ) → b < a → f b ≡ false)
-
--- what the summary's counts count, each address once, and what its lowest is
+-- what the summary's counts count, each address once; `LowestLaws` of `bitset` says what the lowest is
 pub record SummaryLaws : Type 0 where
   pub addresses :
       (next : Node → List Node) (entries clear set : List ℕ) →
@@ -66,7 +61,6 @@ pub record SummaryLaws : Type 0 where
       ReachedSet next entries clear set →
       (a : ℕ) →
       (isWriter read clear set a ≡ true) ↔ ReachedWriter read next entries a
-  pub lowest : (f : ℕ → Bool) (n : ℕ) → IsLowest f n (lowestBelow f n)
 
 -- no two answers are reported alike
 abbrev pub ReachAnswersApart : Type 0

@@ -1,26 +1,11 @@
 -- Document 02, [4]: "a summary of how many addresses are in it, each once", and of the rows that write R7 "the last kind's addresses are counted,
 -- each once, and the lowest, or none, named".
-use Prim.Native.Nat.{ℕ, zero, suc}
-use mathlib.Core.Bool.{Bool, true, false, cond, _&&_, _||_}
+use Prim.Native.Nat.{ℕ}
+use mathlib.Core.Bool.{Bool, true, false, _&&_, _||_}
 use mathlib.Core.List.{List}
-use Rattle.bitset.specs.Bits.{contains, inEither, countBelow}
+use Rattle.bitset.specs.Bits.{contains, inEither, countBelow, LowestOrNone, lowestBelow}
 use Rattle.reach.specs.declared.Node.{Node}
 use Rattle.reach.specs.Ways.{nodeAt, writesAt}
-
--- "the lowest, or none"
-pub data LowestOrNone : Type 0 where
-  none : LowestOrNone
-  lowestAt : ℕ → LowestOrNone
-
--- of numbers found in rising order, the first one stays
-abbrev pub keepLowest : LowestOrNone → ℕ → LowestOrNone
-keepLowest none a = lowestAt a
-keepLowest (lowestAt b) a = lowestAt b
-
--- the lowest number below n with a property
-unfoldable pub lowestBelow : (ℕ → Bool) → ℕ → LowestOrNone
-lowestBelow f zero = none
-lowestBelow f (suc n) = cond (f n) (keepLowest (lowestBelow f n) n) (lowestBelow f n)
 
 -- a node is in the buffer of its D, and the row there writes R7
 unfoldable pub writesIn : (ℕ → ℕ) → List ℕ → Node → Bool

@@ -1,3 +1,2 @@
 -- Definitions in the code's shape.
 pub mod Explore
-pub mod Found

@@ -1,4 +1,5 @@
-// The exploration: every node is marked once, when a path first leads there; an address that is to be followed up waits on a stack.
+// The exploration: every node is marked once, when a path first leads there; an address that is to be followed up waits on a stack. The addresses of rows
+// that write R7 are noted where they are met, so that no instruction is decoded again for the summary.
 ghost use mathlib.Core.Path.{_≡_};
 ghost use mathlib.Core.Bool.{true};
 ghost use Prim.Native.Nat.{_≤_};
@@ -7,7 +8,7 @@ ghost use Rattle.memory.specs.Bus.{busOn, readOf};
 ghost use Rattle.memory.specs.Near.{Near};
 ghost use Rattle.bitset.specs.Bits.{sizeOf};
 ghost use Rattle.reach.specs.Ways.{clearAt, successors};
-ghost use Rattle.reach.specs.inner.Explore.{marked, Marks, Pushes, Exploring, Idle, Grown};
+ghost use Rattle.reach.specs.inner.Explore.{marked, Marks, Pushes, Exploring, Idle, Grown, HoldsWriters};
 ghost use Rattle.reach.specs.Reach.{ReachedSet};
 use crate::Node;
 use crate::ways;
@@ -49,12 +50,13 @@ fn follow(
     mem: &[u16],
     clear: &mut [u64],
     set: &mut [u64],
+    writers: &mut [u64],
     stack: &mut [u16; STACK],
     below: usize,
     from: u16,
 ) -> usize
-    requires { ⌜ (marked (now clear) (now set) (clearAt from) ≡ true) × Exploring (successors (readOf (busOn board (now mem)))) (λ n. n ≡ clearAt from) (now clear) (now set) (now stack) below × Near board first ⌝ }
-    ensures { λ r. ⌜ Exploring (successors (readOf (busOn board (now (mem .entry))))) Idle (now (clear .exit)) (now (set .exit)) (now (stack .exit)) r × Grown (successors (readOf (busOn board (now (mem .entry))))) (now (clear .entry)) (now (set .entry)) (now (clear .exit)) (now (set .exit)) below r ⌝ }
+    requires { ⌜ (marked (now clear) (now set) (clearAt from) ≡ true) × Exploring (readOf (busOn board (now mem))) (λ n. n ≡ clearAt from) (now clear) (now set) (now writers) (now stack) below × Near board first ⌝ }
+    ensures { λ r. ⌜ Exploring (readOf (busOn board (now (mem .entry)))) Idle (now (clear .exit)) (now (set .exit)) (now (writers .exit)) (now (stack .exit)) r × Grown (successors (readOf (busOn board (now (mem .entry))))) (now (clear .entry)) (now (set .entry)) (now (clear .exit)) (now (set .exit)) below r ⌝ }
 {
     let mut depth = below;
     let mut near = first;
@@ -70,6 +72,10 @@ fn follow(
         let ways = ways::ways_of(board, near, mem, node, decoded);
         match ways {
             Ways::End => return depth,
+            Ways::Writes => {
+                bitset::insert(writers, node.address);
+                return depth;
+            }
             Ways::One(next) => {
                 let new = mark(clear, set, next);
                 if !new {
@@ -89,16 +95,18 @@ fn follow(
     }
 }
 
-// From empty buffers to the reached set.
+// From empty buffers to the reached set, and to the addresses in it of rows that write R7.
 pub(crate) fn explore(
     board: Board,
     mem: &[u16],
     entries: &[u16],
     clear: &mut [u64],
     set: &mut [u64],
+    writers: &mut [u64],
 )
-    requires { ⌜ (now clear ≡ replicate 1024 0) × (now set ≡ replicate 1024 0) ⌝ }
+    requires { ⌜ (now clear ≡ replicate 1024 0) × (now set ≡ replicate 1024 0) × (now writers ≡ replicate 1024 0) ⌝ }
     ensures { λ r. ⌜ ReachedSet (successors (readOf (busOn board (now (mem .entry))))) (now (entries .entry)) (now (clear .exit)) (now (set .exit)) ⌝ }
+    ensures { λ r. ⌜ HoldsWriters (readOf (busOn board (now (mem .entry)))) (now (clear .exit)) (now (set .exit)) (now (writers .exit)) ⌝ }
 {
     let mut stack = [0u16; STACK];
     let mut depth = 0;
@@ -112,6 +120,16 @@ pub(crate) fn explore(
         depth -= 1;
         let from = stack[depth];
         near = near::near_to(board, near, from);
-        depth = follow(board, near, mem, clear, set, &mut stack, depth, from);
+        depth = follow(
+            board,
+            near,
+            mem,
+            clear,
+            set,
+            writers,
+            &mut stack,
+            depth,
+            from,
+        );
     }
 }

@@ -3,12 +3,12 @@
 ghost use Rattle.memory.specs.Bus.{busOn};
 ghost use Rattle.reach.specs.Answer.{reachReport};
 ghost use Rattle.reach.specs.Reach.{Reaches};
+use bitset::Lowest;
 use memory::Admission;
 use memory::map::Board;
 use refusal::Refusal;
 
 mod explore;
-mod totals;
 mod ways;
 
 // A place on a path: an address, and the double-byte mark D with which it is reached.
@@ -17,19 +17,13 @@ pub struct Node {
     pub double: bool,
 }
 
-// The lowest address of a row that ends a path by a write to R7.
-pub enum LowestWriter {
-    NoWriter,
-    At { address: u16 },
-}
-
 pub enum ReachAnswer {
     Refused(Refusal),
     // how many addresses are in the set; how many of them, and the lowest, hold a row that ends a path by a write to R7
     Built {
         addresses: u32,
         writers: u32,
-        lowest: LowestWriter,
+        lowest: Lowest,
     },
 }
 
@@ -60,6 +54,11 @@ pub fn reach(
     }
     bitset::reset(clear);
     bitset::reset(set);
-    explore::explore(board, mem, entries, clear, set);
-    totals::summary(board, mem, clear, set)
+    let mut writers = [0u64; bitset::WORDS];
+    explore::explore(board, mem, entries, clear, set, &mut writers);
+    ReachAnswer::Built {
+        addresses: bitset::count_either(clear, set),
+        writers: bitset::count_either(&writers, &writers),
+        lowest: bitset::find_lowest(&writers),
+    }
 }

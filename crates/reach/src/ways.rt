@@ -1,11 +1,11 @@
-// Where a path goes on from an instruction, and whether it ends there by a write to R7.
+// Where a path goes on from an instruction, or how it ends there.
 ghost use mathlib.Core.Path.{_≡_};
 ghost use mathlib.Core.List.{[], _∷_};
 ghost use Rattle.memory.specs.Bus.{busOn, readOf};
 ghost use Rattle.memory.specs.Near.{inFront};
 ghost use Rattle.decode.specs.Fields.{returnOf};
-ghost use Rattle.reach.specs.Ways.{clearAt, onwardOf, branchWays, jumpWays, decodedWays, writesAt};
-ghost use Rattle.reach.specs.inner.Explore.{nodesOf};
+ghost use Rattle.reach.specs.Ways.{clearAt, onwardOf, branchWays, jumpWays};
+ghost use Rattle.reach.specs.inner.Explore.{GoesTo, WaysFrom};
 use crate::Node;
 use decode::Decoded;
 use decode::Instr;
@@ -15,9 +15,10 @@ use decode::rows::Row;
 use memory::map::Board;
 use memory::map::Range;
 
-// Nowhere, at one node, or at one node and at a target, which is reached with D clear.
+// It ends, by a write to R7 or otherwise; or it goes on at one node, or at one node and at a target, which is reached with D clear.
 pub(crate) enum Ways {
     End,
+    Writes,
     One(Node),
     Two(Node, u16),
 }
@@ -33,7 +34,7 @@ fn onward(node: Node, row: Row) -> Node
 }
 
 fn to_target(target: u16) -> Ways
-    ensures { λ r. ⌜ nodesOf r ≡ clearAt target ∷ [] ⌝ }
+    ensures { λ r. ⌜ GoesTo (clearAt target ∷ []) r ⌝ }
 {
     Ways::One(Node {
         address: target,
@@ -42,7 +43,7 @@ fn to_target(target: u16) -> Ways
 }
 
 fn branch_ways(next: Node, target: u16, b: u16) -> Ways
-    ensures { λ r. ⌜ nodesOf r ≡ branchWays next (clearAt target) b ⌝ }
+    ensures { λ r. ⌜ GoesTo (branchWays next (clearAt target) b) r ⌝ }
 {
     let always = fields::is_always(b);
     if always {
@@ -57,7 +58,7 @@ fn branch_ways(next: Node, target: u16, b: u16) -> Ways
 }
 
 fn jump_ways(next: Node, target: u16, second: u16) -> Ways
-    ensures { λ r. ⌜ nodesOf r ≡ jumpWays next (clearAt target) (returnOf second) ⌝ }
+    ensures { λ r. ⌜ GoesTo (jumpWays next (clearAt target) (returnOf second)) r ⌝ }
 {
     let returns = fields::has_return(second);
     if returns {
@@ -69,14 +70,17 @@ fn jump_ways(next: Node, target: u16, second: u16) -> Ways
 
 // From an instruction, once it is decoded.
 pub(crate) fn ways_of(board: Board, near: Range, mem: &[u16], node: Node, decoded: Decoded) -> Ways
-    ensures { λ r. ⌜ nodesOf r ≡ decodedWays (readOf (busOn (inFront near board) (now (mem .entry)))) node decoded ⌝ }
+    ensures { λ r. ⌜ WaysFrom (readOf (busOn (inFront near board) (now (mem .entry)))) node decoded r ⌝ }
 {
     let Decoded::Known(instr) = decoded else {
         return Ways::End;
     };
-    let row = rows::row_of(instr, node.double);
     let writes = decode::writes_r7(instr);
-    if row.halts | writes {
+    if writes {
+        return Ways::Writes;
+    }
+    let row = rows::row_of(instr, node.double);
+    if row.halts {
         return Ways::End;
     }
     let at = node.address;
@@ -101,16 +105,5 @@ pub(crate) fn ways_of(board: Board, near: Range, mem: &[u16], node: Node, decode
         }
         Instr::Store(_, _) => Ways::One(next),
         Instr::Read(_, _, _) => Ways::One(next),
-    }
-}
-
-// Whether the row at a node writes R7.
-pub(crate) fn writes(board: Board, near: Range, mem: &[u16], node: Node) -> bool
-    ensures { λ r. ⌜ r ≡ writesAt (readOf (busOn (inFront near board) (now (mem .entry)))) node ⌝ }
-{
-    let decoded = decode::decode_at(board, near, mem, node.address, node.double);
-    match decoded {
-        Decoded::Unspecified => false,
-        Decoded::Known(instr) => decode::writes_r7(instr),
     }
 }

@@ -4,11 +4,13 @@ use mathlib.Core.Path.{_≡_, refl, sym, ap, _∙_}
 use borrow.Author.Needs.{needs}
 use borrow.Author.Tests.{lt-ltb, le-ltb, eq-eqb, ne-eqb}
 use lib.ListN.{replicate}
+use Rattle.refusal.specs.Report.{answered}
 use Rattle.word.proofs.Choice.{cond-true, cond-false}
 use Rattle.memory.specs.declared.Admission.the-variants.{Admitted}
 use Rattle.memory.specs.Bus.{busOn, admissionOf}
 use Rattle.memory.proofs.BusLaws.{unless-in, unless-out}
 use Rattle.reach.specs.Reach.{reachOf}
+use Rattle.reach.proofs.SummaryLaws.{summary-is}
 use Rattle.reach.proofs.reach.Statement.{statement}
 use Rattle.reach.proofs.reach.Tie as tie
 
@@ -52,16 +54,17 @@ returns-4 c =
 
 explore-requires : tie.Need-explore-requires
 explore-requires c κs =
-    (c .before .before .before .before .before .before .before .before .reset .ensures ∙ ap (λ (n : ℕ). replicate n 0) (c .before .before .before .before .before .before .before .before .before .before .before .if2 .left), c .before .before .before .before .reset2 .ensures ∙ ap (λ (n : ℕ). replicate n 0) (c .before .before .before .before .before .before .before .before .before .before .if3 .left))
+    (c .before .before .before .before .before .before .before .before .before .reset .ensures ∙ ap (λ (n : ℕ). replicate n 0) (c .before .before .before .before .before .before .before .before .before .before .before .before .if2 .left), c .before .before .before .before .before .reset2 .ensures ∙ ap (λ (n : ℕ). replicate n 0) (c .before .before .before .before .before .before .before .before .before .before .before .if3 .left), refl)
 
 returns-5 : tie.Need-returns-5
 unfolding reachOf
 returns-5 c =
+    let s = summary-is _ _ _ _ (c .before .before .before .before .before .before .before .before .before .before .before .before .before .explore .ensures .1) (c .before .before .before .before .before .count-either .ensures) (c .before .before .count-either2 .ensures) (c .find-lowest .ensures) in
     record {
       answer =
-          c .summary .ensures
-          ∙ sym (unless-in _ _ (admitted (c .before .before .before .before .before .before .before .before .before .before .before .before .before .before .before .before .before .before .before .before .before)) ∙ cond-false _ _ (le-ltb _ _ (c .before .before .before .before .before .before .before .before .before .before .before .before .before .before .before .before .before .before .before .before .if1 .left)) ∙ rw (eq-eqb _ _ (c .before .before .before .before .before .before .before .before .before .before .before .before .before .before .before .before .before .before .before .if2 .left), eq-eqb _ _ (c .before .before .before .before .before .before .before .before .before .before .before .before .before .before .before .before .before .before .if3 .left)));
-      left = rw (c .summary .ensures) (c .before .before .before .before .before .before .before .explore .ensures);
+          ap answered s
+          ∙ sym (unless-in _ _ (admitted (c .before .before .before .before .before .before .before .before .before .before .before .before .before .before .before .before .before .before .before .before .before .before .before .before .before .before .before .before)) ∙ cond-false _ _ (le-ltb _ _ (c .before .before .before .before .before .before .before .before .before .before .before .before .before .before .before .before .before .before .before .before .before .before .before .before .before .before .before .if1 .left)) ∙ rw (eq-eqb _ _ (c .before .before .before .before .before .before .before .before .before .before .before .before .before .before .before .before .before .before .before .before .before .before .before .before .before .before .if2 .left), eq-eqb _ _ (c .before .before .before .before .before .before .before .before .before .before .before .before .before .before .before .before .before .before .before .before .before .before .before .before .before .if3 .left)));
+      left = c .before .before .before .before .before .before .before .before .before .before .before .before .before .explore .ensures .0;
     }
 
 pub reach-spec : {M : Type 1} → statement M
@@ -77,7 +80,13 @@ reach-spec =
     returns-4
     (λ c κs. search needs)
     (λ c κs. search needs)
+    (λ c. search needs)
     explore-requires
+    (λ c κs. search needs)
+    (λ c. search needs)
+    (λ c. search needs)
+    (λ c κs. search needs)
+    (λ c. search needs)
     (λ c κs. search needs)
     (λ c. search needs)
     (λ c. search needs)

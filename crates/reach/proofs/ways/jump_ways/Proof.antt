@@ -1,4 +1,5 @@
 -- `jump_ways`: by the return register.
+use mathlib.Core.Path.{refl}
 use Rattle.reach.specs.Ways.{jumpWays}
 use borrow.Author.Needs.{needs}
 use Rattle.reach.proofs.ways.jump_ways.Statement.{statement}
@@ -6,7 +7,7 @@ use Rattle.reach.proofs.ways.jump_ways.Tie as tie
 
 returns : tie.Need-returns
 unfolding jumpWays
-returns c = rw (← c .before .has-return .ensures, c .if1 .taken)
+returns c = rw (← c .before .has-return .ensures, c .if1 .taken) (record { nodes = refl; writes = refl })
 
 returns-2 : tie.Need-returns-2
 unfolding jumpWays
