@@ -15,7 +15,11 @@ same-bool true c p q = sym (p refl)
 same-bool false true p q = q refl
 same-bool false false p q = refl
 
--- both of two, and one of two
+pub or-true : (b c : Bool) → c ≡ true → (b || c) ≡ true
+or-true true c h = refl
+or-true false c h = h
+
+-- both of two
 both : {b c : Bool} → b ≡ true → c ≡ true → (b && c) ≡ true
 both {b} {c} p q = rw (p, q)
 
@@ -27,11 +31,7 @@ module _ (read : ℕ → ℕ) (clear set : List ℕ) (a : ℕ) where
   pub writer-is : (d : Bool) → marked clear set (nodeAt a d) ≡ true → writesAt read (nodeAt a d) ≡ true → isWriter read clear set a ≡ true
   unfolding isWriter writesIn
   writer-is false m w = rw (both m w)
-  writer-is true m w = go (contains clear a && writesAt read (nodeAt a false))
-    where
-      go : (b : Bool) → (b || (contains set a && writesAt read (nodeAt a true))) ≡ true
-      go true = refl
-      go false = both m w
+  writer-is true m w = or-true (contains clear a && writesAt read (nodeAt a false)) _ (both m w)
 
   pub is-writer : isWriter read clear set a ≡ true → Noted read clear set a
   unfolding isWriter writesIn

@@ -22,6 +22,7 @@ use Rattle.reach.specs.declared.ways.Ways.{Ways}
 use Rattle.reach.specs.declared.ways.Ways.the-variants.{End, Writes}
 use Rattle.reach.specs.Ways.{instructionWays, decodedWays, successors, decodedWrites, writesAt}
 use Rattle.reach.specs.inner.Explore.{GoesTo, WaysFrom}
+use Rattle.reach.proofs.SummaryLaws.{or-true}
 use Rattle.reach.proofs.FollowLaws.{Turn}
 
 -- a range at hand stays one
@@ -44,15 +45,11 @@ ways-on b near m n {near′} {w} {x = x} k e f g h q =
     let d : x ≡ decodeAt read (n .address) (n .double) = h ∙ rw (s, g, t) (decodes-in-steps .steps read (n .address) (n .double)) in
     record { nodes = q .nodes ∙ rw (s, d); writes = q .writes ∙ ap decodedWrites d }
 
-or-right : (b : Bool) → (b || true) ≡ true
-or-right true = refl
-or-right false = refl
-
 -- an instruction that writes R7, and one that ends the path otherwise
 pub ways-write : (read : ℕ → ℕ) (n : Node) {x : Decoded} {i : Instr} {w : Bool} → x ≡ Known i → w ≡ writesR7 i → w ≡ true → WaysFrom read n x Writes
 ways-write read n {x} {i} e f g =
     let h : writesR7 i ≡ true = sym f ∙ g in
-    rw e (record { nodes = sym (cond-true _ _ (ap (λ (b : Bool). rowOf i (n .double) .halts || b) h ∙ or-right (rowOf i (n .double) .halts))); writes = sym h })
+    rw e (record { nodes = sym (cond-true _ _ (ap (λ (b : Bool). rowOf i (n .double) .halts || b) h ∙ or-true (rowOf i (n .double) .halts) true refl)); writes = sym h })
 
 module _ (read : ℕ → ℕ) (n : Node) {x : Decoded} {i : Instr} {row : Row} {w : Bool} (e : x ≡ Known i) (f : w ≡ writesR7 i) (g : w ≡ false) (h : row ≡ rowOf i (n .double)) where
   quiet : writesR7 i ≡ false
