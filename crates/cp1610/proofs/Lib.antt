@@ -7,4 +7,5 @@ pub mod ReportLaws
 pub mod EndLaws
 pub mod RefusedLaws
 pub mod ReadLaws
+pub mod ReachLaws
 pub mod StepsLaws

@@ -19,6 +19,8 @@ use Rattle.run.specs.Run.{RunOutcome, runOf}
 use Rattle.meter.specs.Answer.{Answer, wait, over, halts, unspecified, Longest, noWait, longest, Lowest, noOver, overAt, Named}
 use Rattle.listing.specs.Disassemble.{textAt, Disassembly, listedDisassembly, disassembleOf}
 use Rattle.pair.specs.Write.{PairWriting, writePairOf}
+use Rattle.bitset.specs.Bits.{LowestOrNone, none, lowestAt}
+use Rattle.reach.specs.Summary.{SetSummary}
 use Rattle.cp1610.specs.Words.{stateLength, isSet, unpacked, linesOf}
 use Rattle.cp1610.specs.MapWords.{rangeAt, rangesTo, boardOf, kindsTo, isMap, onMap, allRamWords}
 use Rattle.cp1610.specs.Answers.{successWord, runLength, runWords}
@@ -28,6 +30,7 @@ use Rattle.cp1610.specs.MeterCall.{walkedWord, waitCall, regionLength, r
 use Rattle.cp1610.specs.ListingCall.{lineWords, assembleCall, listLength, listWords, listCall}
 use Rattle.cp1610.specs.ImageCall.{countedCall, loadCall, writeCall}
 use Rattle.cp1610.specs.PairCall.{loadPairCall, pairLength, pairWords, writePairCall}
+use Rattle.cp1610.specs.ReachCall.{reachLength, reachWords, reachCall}
 use Rattle.cp1610.specs.Calls.{
   cp1610-reset,
   cp1610-step,
@@ -40,6 +43,7 @@ use Rattle.cp1610.specs.Calls.{
   cp1610-write,
   cp1610-load-pair,
   cp1610-write-pair,
+  cp1610-reach,
 }
 use Rattle.cp1610.specs.Read.{
   itemsIn,
@@ -53,6 +57,7 @@ use Rattle.cp1610.specs.Read.{
   readListing,
   readAssembled,
   readPairWriting,
+  readSummary,
 }
 use Rattle.cp1610.specs.Laws.{ReadsTheAnswer, HasText, ReadsTheText, HeaderMap, ShortestAreWellLent}
 use Rattle.cp1610.proofs.AnswerLaws.{set-flag, unpacks-packed, success-high, success-kind, success-value, success-count}
@@ -69,6 +74,7 @@ use Rattle.cp1610.proofs.ReportLaws.{
   told-writing,
   told-pair-loading,
   told-pair-writing,
+  told-reach,
 }
 
 -- reset
@@ -184,8 +190,16 @@ read-pair mem first last bin cfg out h =
     (λ n low k. rw (low, k .0, k .1))
     (λ n k. rw (success-high 1 0 (lit≤ tt)))
 
+-- build the set
+read-summary : (clear set out : List ℕ) (n m : ℕ) (l : LowestOrNone) →
+    let s : SetSummary = record { addresses = n; writers = m; lowest-writer = l } in
+    readSummary (called (successWord 1 0) (items clear ∷ items set ∷ items (reachWords out s) ∷ [])) ≡ s
+unfolding reachWords
+read-summary clear set out n m none = refl
+read-summary clear set out n m (lowestAt a) = refl
+
 pub reads-the-answer : ReadsTheAnswer
-unfolding waitCall regionCall assembleCall loadCall writeCall loadPairCall
+unfolding waitCall regionCall assembleCall loadCall writeCall loadPairCall reachCall
 reads-the-answer (cp1610-reset state) h = read-reset state h
 reads-the-answer (cp1610-step state mem map lines) h = read-step state map (onMap map mem) lines (h .0) (h .1)
 reads-the-answer (cp1610-run state mem map lines budget out) h = read-run state map (onMap map mem) lines budget out (h .0) (h .1) (h .2)
@@ -216,6 +230,11 @@ reads-the-answer (cp1610-write board mem first last room) h =
 reads-the-answer (cp1610-load-pair mem bin cfg) h =
     read-counted (λ r m. record { answer = r; memory = m }) _ _ _ _ (told-pair-loading mem bin cfg refl)
 reads-the-answer (cp1610-write-pair mem first last bin cfg out) h = read-pair mem first last bin cfg out h
+reads-the-answer (cp1610-reach mem map entries clear set out clear′ set′) h =
+    by-told Unit (λ (x : SetSummary). Unit) (reachCall map (onMap map mem) entries clear set out clear′ set′) (λ r c. readReport readSummary c ≡ r)
+    (rw (le-ltb (length out) reachLength (h .0), h .1)) (told-reach (onMap map mem) entries clear set clear′ set′)
+    (λ n low k. rw low)
+    (λ x k. rw (success-high 1 0 (lit≤ tt), read-summary clear′ set′ out (x .addresses) (x .writers) (x .lowest-writer)))
 
 pub header-map : HeaderMap
 unfolding isMap kindsTo boardOf rangesTo rangeAt listedIn
@@ -236,4 +255,5 @@ shortest-are-well-lent =
       list = λ mem address d text. (lit≤ tt, no-ranges);
       assemble = λ line d. lit≤ tt;
       write-pair = λ mem first last bin cfg. lit≤ tt;
+      reach = λ mem entries clear set clear′ set′. (lit≤ tt, no-ranges);
     }

@@ -14,6 +14,7 @@ use Rattle.cp1610.specs.MeterCall.{walkedWord, waitCall, regionCall}
 use Rattle.cp1610.specs.ListingCall.{listCall, assembleCall}
 use Rattle.cp1610.specs.ImageCall.{loadCall, writeCall}
 use Rattle.cp1610.specs.PairCall.{loadPairCall, writePairCall}
+use Rattle.cp1610.specs.ReachCall.{reachCall}
 use Rattle.cp1610.specs.Calls.{
   cp1610-reset,
   cp1610-step,
@@ -26,6 +27,7 @@ use Rattle.cp1610.specs.Calls.{
   cp1610-write,
   cp1610-load-pair,
   cp1610-write-pair,
+  cp1610-reach,
   RefusedAltersNothing,
 }
 use Rattle.cp1610.proofs.AnswerLaws.{success-high}
@@ -38,7 +40,7 @@ walked-high halts = success-high 3 0 (lit≤ tt)
 walked-high (unspecified address) = success-high 4 address (lit≤ tt)
 
 pub refused-alters-nothing : RefusedAltersNothing
-unfolding resetCall stepCall runCall waitCall regionCall listCall assembleCall loadCall writeCall loadPairCall writePairCall
+unfolding resetCall stepCall runCall waitCall regionCall listCall assembleCall loadCall writeCall loadPairCall writePairCall reachCall
 refused-alters-nothing (cp1610-reset state) = refused-keeps (resetCall state) (λ m e. success-high 1 0 (lit≤ tt))
 refused-alters-nothing (cp1610-step state mem map lines) =
     refused-keeps (stepCall state map (onMap map mem) lines)
@@ -61,3 +63,5 @@ refused-alters-nothing (cp1610-load-pair mem bin cfg) =
     refused-keeps (loadPairCall mem bin cfg) (λ n e. success-high 1 n (lit≤ tt))
 refused-alters-nothing (cp1610-write-pair mem first last bin cfg out) =
     refused-keeps (writePairCall mem first last bin cfg out) (λ n e. success-high 1 0 (lit≤ tt))
+refused-alters-nothing (cp1610-reach mem map entries clear set out clear′ set′) =
+    refused-keeps (reachCall map (onMap map mem) entries clear set out clear′ set′) (λ x e. success-high 1 0 (lit≤ tt))

@@ -2,7 +2,7 @@
 -- that is answered has room in a result.
 use Prim.Native.Nat.{ℕ, zero, suc, _+_, _≤_, _<_}
 use mathlib.Core.Path.{_≡_, refl, sym, subst}
-use mathlib.Core.Bool.{Bool, true}
+use mathlib.Core.Bool.{Bool, true, _||_}
 use mathlib.Core.List.{List, [], _∷_}
 use mathlib.Core.Logic.{_⊎_, ⊎-elim}
 use native.Mathlib.Omega.{arith}
@@ -10,7 +10,7 @@ use borrow.Author.Tests.{ltb-false}
 use lib.Dec.{eqb, ltb}
 use lib.ListN.{length, length-take}
 use Rattle.refusal.specs.declared.Refusal.{Refusal}
-use Rattle.refusal.specs.declared.Refusal.the-variants.{FirstAboveLast, LimitTooHigh, NotAListingLine, TextRoomTooSmall}
+use Rattle.refusal.specs.declared.Refusal.the-variants.{FirstAboveLast, LimitTooHigh, NotAListingLine, TextRoomTooSmall, TooManyEntries, WrongSetLength}
 use Rattle.refusal.specs.Refusals.{refusalNumber}
 use Rattle.refusal.specs.Report.{Report, refused, answered}
 use Rattle.refusal.proofs.ReportLaws.{no-answer}
@@ -65,6 +65,8 @@ use Rattle.pair.specs.Load.{loadPairOf}
 use Rattle.pair.specs.Answer.{PairLengths}
 use Rattle.pair.specs.Write.{PairWriting, writePairOf}
 use Rattle.pair.proofs.OutcomeLaws.{pair-refuses-or-loads, pair-refuses-or-writes, answers-lengths}
+use Rattle.reach.specs.Summary.{SetSummary}
+use Rattle.reach.specs.Reach.{mostEntries, isWrongLength, reachOf}
 use Rattle.cp1610.specs.Answers.{isRefusal}
 use Rattle.cp1610.specs.ListingCall.{lineWords}
 use Rattle.cp1610.proofs.AnswerLaws.{number-low}
@@ -253,3 +255,11 @@ told-pair-writing mem first last bin cfg =
     let s = answers-lengths mem first last bin cfg (p .0) (p .1 .0) in
     rw (p .1 .0) (omega (arith, s .bin, s .few), omega (arith, s .cfg)))
     (pair-refuses-or-writes mem first last bin cfg)
+
+-- a summary has no number that must fit a result
+pub told-reach : (b : Bus) (entries clear set clear′ set′ : List ℕ) → Told Unit (λ (x : SetSummary). Unit) (reachOf b entries clear set clear′ set′)
+unfolding reachOf
+told-reach b entries clear set clear′ set′ =
+    let P : Report SetSummary → Type 0 = Told Unit (λ (x : SetSummary). Unit) in
+    unless-both P (admissionOf b) (λ r. (number-low r, tt))
+    (cond-both P (ltb mostEntries (length entries)) (number-low TooManyEntries, tt) (cond-both P (isWrongLength clear || isWrongLength set) (number-low WrongSetLength, tt) tt))

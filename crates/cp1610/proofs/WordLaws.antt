@@ -15,6 +15,8 @@ use Rattle.cp1610.specs.Words.{stateLength, eight, isSet, flagWord, unpa
 use Rattle.cp1610.specs.Answers.{runLength, runWords}
 use Rattle.cp1610.specs.MeterCall.{regionLength, longestWords, lowestWords, regionWords}
 use Rattle.pair.specs.Answer.{PairLengths}
+use Rattle.bitset.specs.Bits.{LowestOrNone, none, lowestAt}
+use Rattle.cp1610.specs.ReachCall.{reachLength, lowestWriterWords, reachWords}
 use Rattle.cp1610.specs.PairCall.{pairLength, pairWords}
 use Rattle.cp1610.specs.ListingCall.{lineWords, listLength, listWords}
 
@@ -91,6 +93,15 @@ stored-list out l h = sets-eq (l .length ∷ l .words ∷ flagWord (l .double) �
 pub stored-lengths : (out : List ℕ) (n : PairLengths) → pairLength ≤ length out → sets out 0 (n .bin ∷ n .cfg ∷ []) ≡ pairWords out n
 unfolding pairWords
 stored-lengths out n h = sets-eq (n .bin ∷ n .cfg ∷ []) out 0 h
+
+-- the summary of a reached set
+pub stored-summary : (out : List ℕ) (n m : ℕ) (l : LowestOrNone) →
+    reachLength ≤ length out →
+    let found : ℕ → ℕ = λ i. getD (lowestWriterWords l) i 0 in
+    sets out 0 (n ∷ m ∷ found 0 ∷ found 1 ∷ []) ≡ reachWords out (record { addresses = n; writers = m; lowest-writer = l })
+unfolding reachWords
+stored-summary out n m none h = sets-eq (n ∷ m ∷ 0 ∷ 0 ∷ []) out 0 h
+stored-summary out n m (lowestAt a) h = sets-eq (n ∷ m ∷ 1 ∷ a ∷ []) out 0 h
 
 -- and the words of a line
 module _ (words : List ℕ) (room : lineWords ≤ length words) where

@@ -11,6 +11,7 @@ use Rattle.cp1610.specs.MeterCall.{waitCall, regionCall}
 use Rattle.cp1610.specs.ListingCall.{listCall, assembleCall}
 use Rattle.cp1610.specs.ImageCall.{loadCall, writeCall}
 use Rattle.cp1610.specs.PairCall.{loadPairCall, writePairCall}
+use Rattle.cp1610.specs.ReachCall.{reachCall}
 
 -- the functions of the table, with their arguments in its order
 pub data Call : Type 0 where
@@ -25,6 +26,8 @@ pub data Call : Type 0 where
   cp1610-write : (board : ℕ) (mem : List ℕ) (first last : ℕ) (room : List ℕ) → Call
   cp1610-load-pair : (mem bin cfg : List ℕ) → Call
   cp1610-write-pair : (mem : List ℕ) (first last : ℕ) (bin cfg out : List ℕ) → Call
+  -- the last two are what a success leaves in `clear` and `set`
+  cp1610-reach : (mem map entries clear set out clear′ set′ : List ℕ) → Call
 
 -- all that it leaves: each function's contract says that it leaves this. What decodes sees the caller's words on the board of its map; the calls of
 -- files see the words.
@@ -40,6 +43,7 @@ callOf (cp1610-load board mem file) = callBy (loadCall board mem file)
 callOf (cp1610-write board mem first last room) = callBy (writeCall board mem first last room)
 callOf (cp1610-load-pair mem bin cfg) = callBy (loadPairCall mem bin cfg)
 callOf (cp1610-write-pair mem first last bin cfg out) = callBy (writePairCall mem first last bin cfg out)
+callOf (cp1610-reach mem map entries clear set out clear′ set′) = callBy (reachCall map (onMap map mem) entries clear set out clear′ set′)
 
 -- the table's arguments that are marked `mut`
 abbrev pub lentTo : Call → List Lent
@@ -54,6 +58,7 @@ lentTo (cp1610-load board mem file) = items mem ∷ []
 lentTo (cp1610-write board mem first last room) = items room ∷ []
 lentTo (cp1610-load-pair mem bin cfg) = items mem ∷ []
 lentTo (cp1610-write-pair mem first last bin cfg out) = items bin ∷ items cfg ∷ items out ∷ []
+lentTo (cp1610-reach mem map entries clear set out clear′ set′) = items clear ∷ items set ∷ items out ∷ []
 
 -- "A refused call alters nothing at all: not the state, its words 8 to 17 included, not memory, not `out`, not `text`, not `words`,
 -- not the room."

@@ -20,6 +20,7 @@ use Rattle.cp1610.specs.Call.{stepCall}
 use Rattle.cp1610.specs.MeterCall.{regionLength}
 use Rattle.cp1610.specs.ListingCall.{lineWords, listLength}
 use Rattle.cp1610.specs.PairCall.{pairLength}
+use Rattle.cp1610.specs.ReachCall.{reachLength, HoldsSet}
 use Rattle.cp1610.specs.Calls.{
   Call,
   cp1610-reset,
@@ -30,6 +31,7 @@ use Rattle.cp1610.specs.Calls.{
   cp1610-list,
   cp1610-assemble,
   cp1610-write-pair,
+  cp1610-reach,
   callOf,
 }
 use Rattle.cp1610.specs.Read.{itemsIn, memoryIn, readStep, readListing, answerTo, readBack, WellLent}
@@ -72,6 +74,17 @@ pub record ShortestAreWellLent : Type 0 where
   pub list : (mem : List ℕ) (address d : ℕ) (text : List ℕ) → WellLent (cp1610-list mem [] address d text (replicate listLength 0))
   pub assemble : (line : List ℕ) (d : ℕ) → WellLent (cp1610-assemble line d (replicate lineWords 0))
   pub write-pair : (mem : List ℕ) (first last : ℕ) (bin cfg : List ℕ) → WellLent (cp1610-write-pair mem first last bin cfg (replicate pairLength 0))
+  pub reach : (mem entries clear set clear′ set′ : List ℕ) → WellLent (cp1610-reach mem [] entries clear set (replicate reachLength 0) clear′ set′)
+
+-- what `cp1610_reach` leaves is one thing, though its rule names the buffers as they are left: `HoldsSet` fixes them
+abbrev pub ReachCallIsOne : Type 0
+ReachCallIsOne =
+    (mem map entries clear set out clear₁ set₁ clear₂ set₂ : List ℕ) →
+    let c₁ : Called = callOf (cp1610-reach mem map entries clear set out clear₁ set₁) in
+    let c₂ : Called = callOf (cp1610-reach mem map entries clear set out clear₂ set₂) in
+    HoldsSet (onMap map mem) entries clear₁ set₁ (c₁ .result) →
+    HoldsSet (onMap map mem) entries clear₂ set₂ (c₂ .result) →
+    c₁ ≡ c₂
 
 -- calls of a step one after the other with the same buffers, one for each of the numbers that stand for lines
 unfoldable pub callsFrom : List ℕ → List ℕ → Bus → List ℕ → List Called

@@ -7,6 +7,7 @@ pub mod Call
 pub mod MeterCall
 pub mod ImageCall
 pub mod PairCall
+pub mod ReachCall
 pub mod ListingCall
 pub mod Calls
 pub mod Read

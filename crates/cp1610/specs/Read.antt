@@ -22,6 +22,9 @@ use Rattle.image.specs.Write.{Writing, writeOf}
 use Rattle.pair.specs.Load.{loadPairOf}
 use Rattle.pair.specs.Answer.{PairLengths}
 use Rattle.pair.specs.Write.{PairWriting, writePairOf}
+use Rattle.bitset.specs.Bits.{none, lowestAt}
+use Rattle.reach.specs.Summary.{SetSummary}
+use Rattle.reach.specs.Reach.{reachOf}
 use Rattle.cp1610.specs.Words.{stateLength, isSet, unpacked, linesOf}
 use Rattle.cp1610.specs.MapWords.{isMap, onMap}
 use Rattle.cp1610.specs.Answers.{isRefusal, runLength}
@@ -29,6 +32,7 @@ use Rattle.cp1610.specs.Called.{Lent, items, memory, Called}
 use Rattle.cp1610.specs.MeterCall.{regionLength}
 use Rattle.cp1610.specs.ListingCall.{lineWords, listLength}
 use Rattle.cp1610.specs.PairCall.{pairLength}
+use Rattle.cp1610.specs.ReachCall.{reachLength}
 use Rattle.cp1610.specs.Calls.{
   Call,
   cp1610-reset,
@@ -42,6 +46,7 @@ use Rattle.cp1610.specs.Calls.{
   cp1610-write,
   cp1610-load-pair,
   cp1610-write-pair,
+  cp1610-reach,
 }
 
 -- the items and the bus of what is lent
@@ -138,6 +143,12 @@ readPairLengths c =
 abbrev pub readPairWriting : Called → PairWriting
 readPairWriting c = record { answer = readReport readPairLengths c; bin = itemsIn c 0; cfg = itemsIn c 1 }
 
+-- "out = addresses in the set, addresses, each once, of rows that write R7 and end a path, has a lowest of these, the lowest"
+abbrev pub readSummary : Called → SetSummary
+readSummary c =
+    let out : ℕ → ℕ = λ n. getD (itemsIn c 2) n 0 in
+    record { addresses = out 0; writers = out 1; lowest-writer = cond (isSet (out 2)) (lowestAt (out 3)) none }
+
 -- what document 01 answers to a call: of what type, and what
 abbrev pub AnswerTo : Call → Type 0
 AnswerTo (cp1610-reset state) = Report Machine
@@ -151,6 +162,7 @@ AnswerTo (cp1610-load board mem file) = Loading
 AnswerTo (cp1610-write board mem first last room) = Writing
 AnswerTo (cp1610-load-pair mem bin cfg) = Loading
 AnswerTo (cp1610-write-pair mem first last bin cfg out) = PairWriting
+AnswerTo (cp1610-reach mem map entries clear set out clear′ set′) = Report SetSummary
 
 abbrev pub answerTo : (c : Call) → AnswerTo c
 answerTo (cp1610-reset state) = answered resetMachine
@@ -164,6 +176,7 @@ answerTo (cp1610-load board mem file) = loadOf board mem file
 answerTo (cp1610-write board mem first last room) = writeOf board mem first last room
 answerTo (cp1610-load-pair mem bin cfg) = loadPairOf mem bin cfg
 answerTo (cp1610-write-pair mem first last bin cfg out) = writePairOf mem first last bin cfg
+answerTo (cp1610-reach mem map entries clear set out clear′ set′) = reachOf (onMap map mem) entries clear set clear′ set′
 
 -- how a caller reads it
 abbrev pub readBack : (c : Call) → Called → AnswerTo c
@@ -178,6 +191,7 @@ readBack (cp1610-load board mem file) = readLoading
 readBack (cp1610-write board mem first last room) = readWriting
 readBack (cp1610-load-pair mem bin cfg) = readLoading
 readBack (cp1610-write-pair mem first last bin cfg out) = readPairWriting
+readBack (cp1610-reach mem map entries clear set out clear′ set′) = readReport readSummary
 
 -- what a caller has to see to: buffers as long as the table says, and words that are a map; an address has 16 bits by its type
 abbrev pub WellLent : Call → Type 0
@@ -192,3 +206,4 @@ WellLent (cp1610-load board mem file) = Unit
 WellLent (cp1610-write board mem first last room) = Unit
 WellLent (cp1610-load-pair mem bin cfg) = Unit
 WellLent (cp1610-write-pair mem first last bin cfg out) = pairLength ≤ length out
+WellLent (cp1610-reach mem map entries clear set out clear′ set′) = (reachLength ≤ length out) × (isMap map ≡ true)

@@ -17,17 +17,21 @@ ghost use Rattle.cp1610.specs.Calls.{
   cp1610-write,
   cp1610-load-pair,
   cp1610-write-pair,
+  cp1610-reach,
 };
+ghost use Rattle.cp1610.specs.ReachCall.{HoldsSet};
 use image::WriteAnswer;
 use listing::Listing;
 use meter::RegionAnswer;
 use pair::PairAnswer;
+use reach::ReachAnswer;
 use run::RunAnswer;
 
 mod answers;
 mod listing_words;
 mod map_words;
 mod meter_words;
+mod reach_words;
 mod words;
 
 // The state that a machine starts from.
@@ -268,6 +272,42 @@ pub extern "C" fn cp1610_write_pair(
             cfg: text,
         } => {
             answers::put_lengths(out, file as u32, text as u32);
+            answers::success(answers::DONE, 0)
+        }
+    }
+}
+
+// Builds the set of reached addresses. `clear`, `set` and `out` are written only once it is known that the call was not refused.
+#[no_mangle]
+pub extern "C" fn cp1610_reach(
+    mem: &[u16],
+    map: &[u16],
+    entries: &[u16],
+    clear: &mut [u64],
+    set: &mut [u64],
+    out: &mut [u32],
+) -> u64
+    ensures { λ r. ⌜ called r (items (now (clear .exit)) ∷ items (now (set .exit)) ∷ items (now (out .exit)) ∷ [])
+        ≡ callOf (cp1610-reach (now (mem .entry)) (now (map .entry)) (now (entries .entry)) (now (clear .entry)) (now (set .entry)) (now (out .entry)) (now (clear .exit)) (now (set .exit))) ⌝ }
+    ensures { λ r. ⌜ HoldsSet (onMap (now (map .entry)) (now (mem .entry))) (now (entries .entry)) (now (clear .exit)) (now (set .exit)) r ⌝ }
+{
+    if out.len() < reach_words::REACH_LENGTH {
+        return answers::SHORT_BUFFER;
+    }
+    let read = map_words::read_map(map);
+    if !read.whole {
+        return answers::SHORT_BUFFER;
+    }
+    let board = read.board;
+    let answer = reach::reach(board, mem, entries, clear, set);
+    match answer {
+        ReachAnswer::Refused(refusal) => refusal::number(refusal) as u64,
+        ReachAnswer::Built {
+            addresses,
+            writers,
+            lowest,
+        } => {
+            reach_words::put_summary(out, addresses, writers, lowest);
             answers::success(answers::DONE, 0)
         }
     }

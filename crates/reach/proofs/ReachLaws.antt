@@ -24,7 +24,7 @@ use Rattle.reach.specs.Paths.{Reached}
 use Rattle.reach.specs.Summary.{SetSummary, summaryOf}
 use Rattle.reach.specs.Answer.{reachReport}
 use Rattle.reach.specs.Reach.{ReachedSet, mostEntries, isWrongLength, reachOf, Unmoved, LeavesSet, Reaches}
-use Rattle.reach.specs.Laws.{ReachedSetIsOne, SameOutcome, ReachIsOne, ReachedAddress, SummaryLaws, ReachAnswersApart}
+use Rattle.reach.specs.Laws.{ReachedSetIsOne, SameOutcome, ReachIsOne, RefusesAlike, ReachedAddress, SummaryLaws, ReachAnswersApart}
 use Rattle.reach.specs.inner.Explore.{marked}
 use Rattle.reach.proofs.SummaryLaws.{same-bool, or-true, writer-is, is-writer}
 
@@ -81,6 +81,15 @@ reach-is-one b entries clear set clear₁ set₁ clear₂ set₂ r₁ r₂ k₁ 
         let e₂ = k₂ .answer ∙ p _ in
         let same = reached-set-is-one (successors (readOf b)) entries clear₁ set₁ clear₂ set₂ (holds-set b entries clear set k₁ e₁) (holds-set b entries clear set k₂ e₂) in
         record { buffers = same; answers = e₁ ∙ ap₂ (λ (c s : List ℕ). answered (summaryOf (readOf b) c s)) (same .clears) (same .sets) ∙ sym e₂ }
+
+pub refuses-alike : RefusesAlike
+unfolding Refuses reachOf
+refuses-alike b entries clear set clear₁ set₁ clear₂ set₂ n e =
+    go (refuses (admissionOf b) (ltb mostEntries (length entries)) (isWrongLength clear || isWrongLength set))
+  where
+    go : Refuses (admissionOf b) (ltb mostEntries (length entries)) (isWrongLength clear || isWrongLength set) → reachOf b entries clear set clear₂ set₂ ≡ refused n
+    go (inl p) = p .1 _ ∙ sym (p .1 _) ∙ e
+    go (inr p) = no-answer (sym e ∙ p _)
 
 -- an address is in one buffer or the other
 module _ {next : Node → List Node} {entries clear set : List ℕ} (k : ReachedSet next entries clear set) (a : ℕ) where

@@ -4,7 +4,7 @@ use mathlib.Core.Path.{_≡_}
 use mathlib.Core.Bool.{Bool, true}
 use mathlib.Core.List.{List}
 use mathlib.Core.Logic.{_↔_}
-use Rattle.refusal.specs.Report.{Report, OneToOne}
+use Rattle.refusal.specs.Report.{Report, refused, OneToOne}
 use Rattle.memory.specs.Bus.{Bus}
 use Rattle.bitset.specs.Bits.{inEither}
 use Rattle.reach.specs.declared.Node.{Node}
@@ -12,7 +12,7 @@ use Rattle.reach.specs.Ways.{nodeAt, writesAt}
 use Rattle.reach.specs.Paths.{Reached}
 use Rattle.reach.specs.Summary.{isWriter, SetSummary}
 use Rattle.reach.specs.Answer.{reachReport}
-use Rattle.reach.specs.Reach.{ReachedSet, Reaches}
+use Rattle.reach.specs.Reach.{ReachedSet, reachOf, Reaches}
 
 -- two pairs of buffers that hold the same reached set are equal
 pub record SameBuffers (clear set clear′ set′ : List ℕ) : Type 0 where
@@ -37,6 +37,13 @@ ReachIsOne =
     Reaches b entries clear set clear₁ set₁ r₁ →
     Reaches b entries clear set clear₂ set₂ r₂ →
     SameOutcome clear₁ set₁ r₁ clear₂ set₂ r₂
+
+-- whether the call is refused, and by which number, does not hang on what it leaves
+abbrev pub RefusesAlike : Type 0
+RefusesAlike =
+    (b : Bus) (entries clear set clear₁ set₁ clear₂ set₂ : List ℕ) (n : ℕ) →
+    reachOf b entries clear set clear₁ set₁ ≡ refused n →
+    reachOf b entries clear set clear₂ set₂ ≡ refused n
 
 -- a path leads to an address with one D or the other
 pub record ReachedAddress (next : Node → List Node) (entries : List ℕ) (a : ℕ) : Type 0 where

@@ -11,6 +11,9 @@ use Rattle.cp1610.proofs.answers.load_word.Tie as tie
 counted-requires : tie.Need-counted-requires
 counted-requires c κs = subst (λ (a : LoadAnswer). UnlessRefused (λ n. n < 0x8000000000000000) (loadReported a)) (c .before .answer2 .given .1) (c .before .before .before .pre)
 
+returns : tie.Need-returns
+returns c = rw (c .number .ensures, c .before .before .answer .given .1)
+
 returns-2 : tie.Need-returns-2
 returns-2 c = rw (c .counted .ensures, c .before .before .answer2 .given .1)
 
@@ -23,5 +26,5 @@ load-word-spec =
     (λ c. search needs)
     (λ c. search needs)
     counted-requires
-    (λ c. search needs)
+    returns
     returns-2)

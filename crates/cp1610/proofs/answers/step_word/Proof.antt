@@ -21,6 +21,9 @@ cast-success-2 c = omega (arith, low (c .before .answer3 .given .1) (c .before .
 cast-success-3 : tie.Need-cast-success-3
 cast-success-3 c = omega (arith, low (c .before .answer4 .given .1) (c .before .before .before .pre))
 
+returns : tie.Need-returns
+returns c = rw (c .number .ensures, c .before .before .answer .given .1)
+
 returns-2 : tie.Need-returns-2
 returns-2 c = rw (c .success .ensures, c .before .before .answer2 .given .1)
 
@@ -46,7 +49,7 @@ step-word-spec =
     (λ c. search needs)
     cast-success-3
     (λ c κs. search needs)
-    (λ c. search needs)
+    returns
     returns-2
     returns-3
     returns-4)
