@@ -10,7 +10,7 @@ use borrow.Author.Tests.{ltb-false}
 use lib.Dec.{eqb, ltb}
 use lib.ListN.{length, length-take}
 use Rattle.refusal.specs.declared.Refusal.{Refusal}
-use Rattle.refusal.specs.declared.Refusal.the-variants.{FirstAboveLast, LimitTooHigh, NotAListingLine, TextRoomTooSmall, TooManyEntries, WrongSetLength}
+use Rattle.refusal.specs.declared.Refusal.the-variants.{LimitTooHigh, NotAListingLine, TextRoomTooSmall, TooManyEntries, WrongSetLength}
 use Rattle.refusal.specs.Refusals.{refusalNumber}
 use Rattle.refusal.specs.Report.{Report, refused, answered}
 use Rattle.refusal.proofs.ReportLaws.{no-answer}
@@ -49,7 +49,7 @@ use Rattle.meter.specs.Walk.{
   walkOn,
   walkFrom,
 }
-use Rattle.meter.specs.Meter.{waitOf, regionOf}
+use Rattle.meter.specs.Meter.{waitOf, scanAdmission, regionOf}
 use Rattle.listing.specs.Disassemble.{entryAt, textAt, Disassembly, listedDisassembly, disassembleOf}
 use Rattle.text.specs.Text.{sameText}
 use Rattle.listing.specs.Cut.{cutWords, cutAt}
@@ -157,10 +157,7 @@ told-wait b address limit here =
 -- a region's report has no number of its own
 pub told-region : (b : Bus) (first last limit : ℕ) → Told Unit (λ x. Unit) (regionOf b first last limit)
 unfolding regionOf
-told-region b first last limit =
-    unless-both (Told Unit (λ x. Unit)) (admissionOf b) (λ r. (number-low r, tt))
-    (cond-both (Told Unit (λ x. Unit)) (ltb last first) (number-low FirstAboveLast, tt)
-    (cond-both (Told Unit (λ x. Unit)) (ltb highestLimit limit) (number-low LimitTooHigh, tt) tt))
+told-region b first last limit = unless-both (Told Unit (λ x. Unit)) (scanAdmission b first last limit) (λ r. (number-low r, tt)) tt
 
 -- a line's text is short
 abbrev pub ToldListing : List ℕ → Disassembly → Type 0

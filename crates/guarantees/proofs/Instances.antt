@@ -22,7 +22,7 @@ use Rattle.cpu.specs.Step.{noted, planOf, granted, executionWords, executedFrom
 use Rattle.cpu.specs.Steps.{StepMade, stepsFrom, cyclesOfAll}
 use Rattle.meter.specs.Walk.{limitOf, startAt, placeAfter, rowTurn, turnAt, walkBy, walkOn, walkFrom}
 use Rattle.meter.specs.Scan.{longerThan, lowerThan, longestBy, lowestBy}
-use Rattle.meter.specs.Meter.{waitOf, namedOf, regionOf}
+use Rattle.meter.specs.Meter.{waitOf, namedOf, scanAdmission, regionOf}
 use Rattle.meter.specs.Reads.{readsBy, readsOn, readsFrom}
 use Rattle.guarantees.specs.Grants.{grants, beforeGrant}
 use Rattle.guarantees.specs.Unstored.{Unstored}
@@ -76,7 +76,7 @@ changed-word : {rest : Type 0} → _≡_ {A = ℕ} 0x1034 0x34 × rest → ⊥
 changed-word e = omega (arith, e .0)
 
 pub not-empty : NotEmpty
-unfolding holds cellAt wrapAdd peekOf pokeOf readOf storeOf badMap admissionOf controlInstruction statusInstruction lowInstruction instructionOf isUnspecified decodeAt interruptibleEntry plainEntry controlEntry registerEntry branchCycles branchEntry memoryWords storeEntry decodingReads seenBy conditionHolds isTaken branch begun noted planOf granted executionWords executedFrom executed admittedAction actionOf stepOf stepsFrom cyclesOfAll limitOf startAt placeAfter rowTurn turnAt walkBy walkOn walkFrom longerThan lowerThan longestBy lowestBy waitOf namedOf regionOf readsBy readsOn readsFrom grants beforeGrant
+unfolding holds cellAt wrapAdd peekOf pokeOf readOf storeOf badMap admissionOf controlInstruction statusInstruction lowInstruction instructionOf isUnspecified decodeAt interruptibleEntry plainEntry controlEntry registerEntry branchCycles branchEntry memoryWords storeEntry decodingReads seenBy conditionHolds isTaken branch begun noted planOf granted executionWords executedFrom executed admittedAction actionOf stepOf stepsFrom cyclesOfAll limitOf startAt placeAfter rowTurn turnAt walkBy walkOn walkFrom longerThan lowerThan longestBy lowestBy waitOf namedOf scanAdmission regionOf readsBy readsOn readsFrom grants beforeGrant
 not-empty =
     record {
       opcode = record { premises = record { stands = search needs; low = search needs; unstored = unstored _ _ refl }; answers = refl; granted = refl; after = refl };

@@ -1,7 +1,9 @@
--- Laws of the walk, of the words that it reads and of the scan, and the invariants of the loops.
+-- Laws of the walk, of the words that it reads, of the scan and of the meter for a region, and the invariants of the loops.
 pub mod AnswerLaws
 pub mod WalkLaws
 pub mod ReadLaws
 pub mod ScanLaws
+pub mod RegionLaws
+pub mod StretchLaws
 pub mod Loops
 pub mod AllRamLaws

@@ -1,8 +1,11 @@
 -- The invariants of the meter's loops, and what a turn of each keeps. Each is a record, so that a proof names none of its arguments.
-use Prim.Native.Nat.{ℕ, suc, _+_, _-_, _<_, _≤_}
+use Prim.Native.Nat.{ℕ, suc, _+_, _-_, _*_, _/_, _<_, _≤_, max, min}
 use mathlib.Core.Path.{_≡_, refl, ap, ap₂, sym, _∙_}
+use mathlib.Core.Bool.{Bool, true, false}
 use mathlib.Core.List.{List}
+use native.Mathlib.Numerals.{add-one}
 use native.Mathlib.Omega.{arith}
+use lib.ListN.{getD}
 use Rattle.refusal.specs.Report.{answered}
 use Rattle.memory.specs.declared.Admission.the-variants.{Admitted}
 use Rattle.memory.specs.declared.map.Range.{Range}
@@ -10,6 +13,7 @@ use Rattle.memory.specs.declared.map.Board.{Board}
 use Rattle.memory.specs.Bus.{Bus, busOn, readOf, admissionOf}
 use Rattle.memory.specs.Near.{inFront, noRange, nearOf}
 use Rattle.memory.proofs.NearLaws.{near-laws}
+use Rattle.bitset.specs.Bits.{contains}
 use Rattle.decode.specs.declared.Instr.{Instr}
 use Rattle.decode.specs.declared.Decoded.{Decoded}
 use Rattle.decode.specs.Fields.{opcodeOf}
@@ -19,12 +23,12 @@ use Rattle.meter.specs.declared.Walked.{Walked}
 use Rattle.meter.specs.declared.walk.Place.{Place}
 use Rattle.meter.specs.declared.walk.Next.{Next}
 use Rattle.meter.specs.declared.walk.Next.the-variants.{Ends, GoesOn}
-use Rattle.meter.specs.Answer.{Answer, Longest, noWait, Lowest, noOver, Named, answerOf}
+use Rattle.meter.specs.Answer.{Answer, Named, answerOf}
 use Rattle.meter.specs.Walk.{limitOf, startAt, ends, goesOn, turned, decodedTurn, turnAt, afterTurn, walkOn, walkFrom}
-use Rattle.meter.specs.Scan.{longerOf, lowerOf, longestBy, lowestBy}
-use Rattle.meter.specs.Meter.{waitOf, namedOf, regionOf}
+use Rattle.meter.specs.Meter.{answerFrom, waitOf, namedBefore, namedOf}
+use Rattle.meter.specs.inner.Stretch.{nothingNamed, namedWith, startsIn, StretchAdds}
 use Rattle.meter.proofs.WalkLaws.{turn-goes, turn-adds, walk-equation, wait-answers}
-use Rattle.meter.proofs.ScanLaws.{longest-suc, lowest-suc, region-answers}
+use Rattle.meter.proofs.StretchLaws.{named-none, named-start, named-pass, word-tells, adds-nothing}
 
 -- the loops read with a range at hand, the one looked up first, and so what the map alone reads
 pub at-hand : {none near : Range} (b : Board) (m : List ℕ) (a : ℕ) → none ≡ noRange → near ≡ nearOf b none a → readOf (busOn (inFront near b) m) ≡ readOf (busOn b m)
@@ -75,39 +79,68 @@ module _ {read : ℕ → ℕ} {limit start : ℕ} {p : Place} {t : Next} (k : Wa
 pub wait-end : {x : Answer} {read : ℕ → ℕ} (b : Bus) (a limit l : ℕ) → x ≡ walkFrom read l a → read ≡ readOf b → l ≡ limitOf limit → admissionOf b ≡ Admitted → limit ≤ 4096 → answered x ≡ waitOf b a limit
 wait-end b a limit l e f r p q = ap answered (e ∙ ap₂ (λ (g : ℕ → ℕ) (n : ℕ). walkFrom g n a) f r) ∙ sym (wait-answers b a limit p q)
 
--- the scan of a region, at a start of it: what the starts before it name
-pub record Scanning (answers : ℕ → Answer) (first last start : ℕ) (l : Longest) (o : Lowest) : Type 0 where
-  pub longest : l ≡ longestBy (start - first) answers first
-  pub lowest : o ≡ lowestBy (start - first) answers first
-  pub from : first ≤ start
-  pub to : start ≤ last
+-- the scan of a stretch, at an address of it: what its starts before that add
+pub record Scanning (isStart : ℕ → Bool) (answers : ℕ → Answer) (first last : ℕ) (before : Named) (at : ℕ) (now : Named) : Type 0 where
+  pub adds : StretchAdds isStart answers first at before now
+  pub from : first ≤ at
+  pub to : at ≤ last
 
-pub scanning : {answers : ℕ → Answer} {first last : ℕ} → first ≤ last → Scanning answers first last first noWait noOver
-unfolding longestBy lowestBy
-scanning {first = first} h =
-    let n : first - first ≡ 0 = omega arith in
-    record { longest = rw n; lowest = rw n; from = omega arith; to = h }
+pub scanning : {isStart : ℕ → Bool} {answers : ℕ → Answer} {first last : ℕ} {before : Named} → first ≤ last → Scanning isStart answers first last before first before
+scanning h = record { adds = λ f a p q e. e; from = omega arith; to = h }
 
-module _ {answers : ℕ → Answer} {first last start : ℕ} {l l′ : Longest} {o o′ : Lowest} {x : Answer}
-    (k : Scanning answers first last start l o) (e : x ≡ answers start) (p : l′ ≡ longerOf l x start) (q : o′ ≡ lowerOf o x start) where
-  longest-more : l′ ≡ longestBy (suc (start - first)) answers first
-  longest-more = rw (longest-suc answers first start (k .from), ← k .longest, ← e) p
+-- what is named after the address that it stands at
+abbrev pub Scanned : {isStart : ℕ → Bool} {answers : ℕ → Answer} {first last at : ℕ} {before now : Named} → Scanning isStart answers first last before at now → Named → Type 0
+Scanned {isStart} {answers} {first} {at = at} {before = before} k now′ = StretchAdds isStart answers first (suc at) before now′
 
-  lowest-more : o′ ≡ lowestBy (suc (start - first)) answers first
-  lowest-more = rw (lowest-suc answers first start (k .from), ← k .lowest, ← e) q
+module _ {isStart : ℕ → Bool} {answers : ℕ → Answer} {first last at : ℕ} {before now now′ : Named} (k : Scanning isStart answers first last before at now) where
+  pub scanned-start : {x : Answer} → isStart at ≡ true → x ≡ answers at → now′ ≡ namedWith now x at → Scanned k now′
+  scanned-start m e q f a p same r =
+      let t = k .adds f a p (λ s i j. same s i (omega arith)) r in
+      q ∙ rw (t, e) (sym (named-start f answers a at (omega (arith, k .from)) (same at (k .from) (omega arith) ∙ m)))
 
-  pub scanning-on : start < last → Scanning answers first last (start + 1) l′ o′
-  scanning-on h =
-      let n : start + 1 - first ≡ suc (start - first) = omega (arith, k .from) in
-      record { longest = rw n longest-more; lowest = rw n lowest-more; from = omega (arith, k .from); to = omega arith }
+  pub scanned-pass : isStart at ≡ false → now′ ≡ now → Scanned k now′
+  scanned-pass m e f a p same r =
+      e ∙ k .adds f a p (λ s i j. same s i (omega arith)) r ∙ sym (named-pass f answers a at (omega (arith, k .from)) (same at (k .from) (omega arith) ∙ m))
 
-  pub scanning-end : last ≤ start → _≡_ {A = Named} (record { longest-wait = l′; lowest-over = o′ }) (namedOf answers first last)
+  pub scanning-on : Scanned k now′ → at < last → Scanning isStart answers first last before (at + 1) now′
+  scanning-on h l = rw (add-one at) (record { adds = h; from = omega (arith, k .from); to = omega arith })
+
+  pub scanning-end : Scanned k now′ → last ≤ at → StretchAdds isStart answers first (suc last) before now′
+  scanning-end h l = let e : last ≡ at = omega (arith, k .to) in rw e h
+
+-- the loops' answers are the meter's
+pub adds-answers : {isStart : ℕ → Bool} {read : ℕ → ℕ} {l first end : ℕ} {before after : Named} (b : Bus) (limit : ℕ) → StretchAdds isStart (walkFrom read l) first end before after → read ≡ readOf b → l ≡ limitOf limit → StretchAdds isStart (answerFrom b limit) first end before after
+adds-answers b limit h e f = rw (e, f) at h
+
+-- the scan of a set's members, at a word of the set: what the members before the word's addresses name
+pub record Collecting (clear : List ℕ) (answers : ℕ → Answer) (first last i : ℕ) (now : Named) : Type 0 where
+  pub named : now ≡ namedBefore (contains clear) answers first (max first (64 * i))
+  pub from : first / 64 ≤ i
+  pub to : i ≤ last / 64
+
+pub collecting : {clear : List ℕ} {answers : ℕ → Answer} {first last : ℕ} {now : Named} → first ≤ last → now ≡ nothingNamed → Collecting clear answers first last (first / 64) now
+collecting {clear} {answers} {first} h e =
+    let m : max first (64 * (first / 64)) ≡ first = omega arith in
+    record { named = e ∙ rw m (named-none (contains clear) answers first); from = omega arith; to = omega arith }
+
+-- what is named after the word's addresses
+abbrev pub Collected : {clear : List ℕ} {answers : ℕ → Answer} {first last i : ℕ} {now : Named} → Collecting clear answers first last i now → Named → Type 0
+Collected {clear} {answers} {first} {last} {i} k now′ = now′ ≡ namedBefore (contains clear) answers first (suc (min last (64 * i + 63)))
+
+module _ {clear : List ℕ} {answers : ℕ → Answer} {first last i : ℕ} {now now′ : Named} (k : Collecting clear answers first last i now) where
+  pub collected : StretchAdds (startsIn (getD clear i 0)) answers (max first (64 * i)) (suc (min last (64 * i + 63))) now now′ → Collected k now′
+  collected h = h (contains clear) first (omega arith) (λ a p q. word-tells clear i a (omega arith)) (k .named)
+
+  pub collecting-on : Collected k now′ → i < last / 64 → Collecting clear answers first last (i + 1) now′
+  collecting-on h l =
+      let m : max first (64 * (i + 1)) ≡ suc (min last (64 * i + 63)) = omega (arith, k .from) in
+      record { named = rw m h; from = omega (arith, k .from); to = omega arith }
+
+  pub collecting-end : Collected k now′ → last / 64 ≤ i → now′ ≡ namedOf (contains clear) answers first last
   unfolding namedOf
-  scanning-end h =
-      let n : suc last - first ≡ suc (start - first) = omega (arith, k .from, k .to) in
-      rw (n, longest-more, lowest-more)
+  collecting-end h l = let m : min last (64 * i + 63) ≡ last = omega (arith, k .to) in rw m at h
 
--- the end of the scan of the meter for a region
-pub region-end : {x : Named} {read : ℕ → ℕ} (b : Bus) (first last limit l : ℕ) → x ≡ namedOf (walkFrom read l) first last → read ≡ readOf b → l ≡ limitOf limit → admissionOf b ≡ Admitted → first ≤ last → limit ≤ 4096 → answered x ≡ regionOf b first last limit
-region-end b first last limit l e f r p q s =
-    ap answered (e ∙ ap₂ (λ (g : ℕ → ℕ) (n : ℕ). namedOf (walkFrom g n) first last) f r) ∙ sym (region-answers b first last limit p q s)
+pub vacant : {clear : List ℕ} {answers : ℕ → Answer} {first last i : ℕ} {now : Named} (k : Collecting clear answers first last i now) → getD clear i 0 ≡ 0 → first ≤ last → Collected k now
+vacant {answers = answers} {first} {last} {i} {now} k e l =
+    let n : max first (64 * i) + (suc (min last (64 * i + 63)) - max first (64 * i)) ≡ suc (min last (64 * i + 63)) = omega (arith, k .from, k .to) in
+    collected k (rw e (rw n at (adds-nothing answers (max first (64 * i)) (suc (min last (64 * i + 63)) - max first (64 * i)) now)))

@@ -1,164 +1,190 @@
--- Laws of the scan of a region: what it names is what the region's law says.
+-- Laws of the scan of a region: what it names is what the region's law says, of every address or of a set's members.
 use Prim.Native.Nat.{ℕ, zero, suc, _+_, _-_, _<_, _≤_}
 use mathlib.Core.Path.{_≡_, refl, ap, sym, _∙_}
-use mathlib.Core.Logic.{_⊎_, inl, inr, ⊎-elim}
-use mathlib.Core.Bool.{Bool, true, false, cond}
+use mathlib.Core.Logic.{_⊎_, inl, inr, ⊎-elim, _↔_}
+use mathlib.Core.Bool.{Bool, true, false}
 use native.Mathlib.Nat.{le-of-eq}
 use native.Mathlib.Decide.{decLt}
 use native.Mathlib.Omega.{arith}
 use lib.Dec.{ltb}
-use borrow.Author.Tests.{ltb-true, ltb-false, le-ltb}
-use Rattle.refusal.specs.Report.{Report, answered, UnlessRefused}
-use Rattle.word.proofs.Choice.{cond-false, cond-both, cond-either}
-use Rattle.memory.specs.declared.Admission.the-variants.{Admitted}
-use Rattle.memory.specs.Bus.{Bus, admissionOf}
-use Rattle.memory.proofs.BusLaws.{unless-both, unless-in}
-use Rattle.meter.specs.Answer.{Answer, wait, over, halts, unspecified, Longest, noWait, longest, Lowest, noOver, overAt, Named}
+use borrow.Author.Tests.{ltb-true, ltb-false}
+use Rattle.word.proofs.Choice.{cond-either}
+use Rattle.meter.specs.Answer.{Answer, wait, over, halts, unspecified, Longest, noWait, longest, Lowest, noOver, overAt}
 use Rattle.meter.specs.Scan.{longerThan, longerOf, lowerThan, lowerOf, longestBy, lowestBy}
-use Rattle.meter.specs.Meter.{answerFrom, namedOf, regionOf}
-use Rattle.meter.specs.Laws.{LongestIs, LowestIs, NamedIs, NamesItsStarts}
+use Rattle.meter.specs.Meter.{namedOf}
+use Rattle.meter.specs.Laws.{StartIn, LongestIs, LowestIs, NamedIs, SameStarts}
 
--- one start more
-module _ (answers : ℕ → Answer) (first start : ℕ) (h : first ≤ start) where
-  pub longest-suc : longestBy (suc (start - first)) answers first ≡ longerOf (longestBy (start - first) answers first) (answers start) start
-  unfolding longestBy
-  longest-suc = let e : first + (start - first) ≡ start = omega arith in rw e
+-- one address more, e: what the starts before it name, and its own answer if it is one
+module _ (Member : ℕ → Type 0) (answers : ℕ → Answer) (first e : ℕ) (low : first ≤ e) where
+  further : {s : ℕ} → StartIn Member first e s → StartIn Member first (suc e) s
+  further p = record { from = p .from; to = omega (arith, p .to); member = p .member }
 
-  pub lowest-suc : lowestBy (suc (start - first)) answers first ≡ lowerOf (lowestBy (start - first) answers first) (answers start) start
-  unfolding lowestBy
-  lowest-suc = let e : first + (start - first) ≡ start = omega arith in rw e
+  the-last : Member e → StartIn Member first (suc e) e
+  the-last m = record { from = low; to = omega arith; member = m }
 
--- a region that is not refused
-pub region-answers : (b : Bus) (first last limit : ℕ) → admissionOf b ≡ Admitted → first ≤ last → limit ≤ 4096 → regionOf b first last limit ≡ answered (namedOf (answerFrom b limit) first last)
-unfolding regionOf
-region-answers b first last limit p q r = unless-in _ _ p ∙ cond-false _ _ (le-ltb _ _ q) ∙ cond-false _ _ (le-ltb _ _ r)
+  -- a start before it, or itself
+  before-or-last : {s : ℕ} → StartIn Member first (suc e) s → StartIn Member first e s ⊎ (Member e × (s ≡ e))
+  before-or-last {s} p = by (decLt s e)
+    where
+      by : Dec (s < e) → StartIn Member first e s ⊎ (Member e × (s ≡ e))
+      by (yes q) = inl (record { from = p .from; to = q; member = p .member })
+      by (no q) = let t : s ≡ e = omega (arith, p .to) in inr (rw t at (p .member), t)
 
--- the last start, or one before it
-last-or-before : (s e : ℕ) → s < suc e → (s < e) ⊎ (s ≡ e)
-last-or-before s e h = by (decLt s e)
-  where
-    by : Dec (s < e) → (s < e) ⊎ (s ≡ e)
-    by (yes p) = inl p
-    by (no p) = inr (omega arith)
-
--- one start more, e: what the starts before it name, and its own answer
-module _ (answers : ℕ → Answer) (first e : ℕ) (low : first ≤ e) where
-  -- a start that has no wait changes nothing
-  longest-same : (l : Longest) → ((w : ℕ) → answers e ≡ wait w → ⊥) → LongestIs answers first e l → LongestIs answers first (suc e) l
-  longest-same noWait n h = λ s w p q k. ⊎-elim (λ t. h s w p t k) (λ t. n w (ap answers (sym t) ∙ k)) (last-or-before s e q)
+  -- one that is no start, or that has no wait, changes nothing
+  longest-same : (l : Longest) → (Member e → (w : ℕ) → answers e ≡ wait w → ⊥) → LongestIs Member answers first e l → LongestIs Member answers first (suc e) l
+  longest-same noWait n h = λ s w p k. ⊎-elim (λ t. h s w t k) (λ t. n (t .0) w (ap answers (sym (t .1)) ∙ k)) (before-or-last p)
   longest-same (longest v at) n h =
       record {
-        from = h .from;
-        to = omega (arith, h .to);
+        is-start = further (h .is-start);
         waits = h .waits;
-        others = λ s w p q k. ⊎-elim (λ t. h .others s w p t k) (λ t. absurd (n w (ap answers (sym t) ∙ k))) (last-or-before s e q);
+        others = λ s w p k. ⊎-elim (λ t. h .others s w t k) (λ t. absurd (n (t .0) w (ap answers (sym (t .1)) ∙ k))) (before-or-last p);
         lower = h .lower;
       }
 
-  longest-wait : (l : Longest) (w : ℕ) → answers e ≡ wait w → LongestIs answers first e l → LongestIs answers first (suc e) (longerThan l w e)
+  longest-wait : (l : Longest) (w : ℕ) → Member e → answers e ≡ wait w → LongestIs Member answers first e l → LongestIs Member answers first (suc e) (longerThan l w e)
   unfolding longerThan
-  longest-wait noWait w q h =
+  longest-wait noWait w m q h =
       record {
-        from = low;
-        to = omega arith;
+        is-start = the-last m;
         waits = q;
-        others = λ s v r t k. ⊎-elim (λ u. absurd (h s v r u k)) (λ u. le-of-eq (same (ap answers (sym u) ∙ k))) (last-or-before s e t);
-        lower = λ s v r t k. absurd (h s v r t k);
+        others = λ s v p k. ⊎-elim (λ t. absurd (h s v t k)) (λ t. le-of-eq (same (ap answers (sym (t .1)) ∙ k))) (before-or-last p);
+        lower = λ s v p k. absurd (h s v p k);
       }
     where
       same : {v : ℕ} → answers e ≡ wait v → v ≡ w
       same k = cc
-  longest-wait (longest v at) w q h = go (ltb v w) refl
+  longest-wait (longest v at) w m q h = cond-either (LongestIs Member answers first (suc e)) (ltb v w) longer kept
     where
       same : {u : ℕ} → answers e ≡ wait u → u ≡ w
       same k = cc
 
-      go : (b : Bool) → ltb v w ≡ b → LongestIs answers first (suc e) (cond b (longest w e) (longest v at))
-      go true b =
+      longer : ltb v w ≡ true → LongestIs Member answers first (suc e) (longest w e)
+      longer b =
           let j = ltb-true v w b in
           record {
-            from = low;
-            to = omega arith;
+            is-start = the-last m;
             waits = q;
-            others = λ s u r t k. ⊎-elim (λ x. let y = h .others s u r x k in omega arith) (λ x. le-of-eq (same (ap answers (sym x) ∙ k))) (last-or-before s e t);
-            lower = λ s u r t k. let y = h .others s u r t k in omega arith;
+            others = λ s u p k. ⊎-elim (λ t. let y = h .others s u t k in omega arith) (λ t. le-of-eq (same (ap answers (sym (t .1)) ∙ k))) (before-or-last p);
+            lower = λ s u p k. let y = h .others s u p k in omega arith;
           }
-      go false b =
+
+      kept : ltb v w ≡ false → LongestIs Member answers first (suc e) (longest v at)
+      kept b =
           let j = ltb-false v w b in
           record {
-            from = h .from;
-            to = omega (arith, h .to);
+            is-start = further (h .is-start);
             waits = h .waits;
-            others = λ s u r t k. ⊎-elim (λ x. h .others s u r x k) (λ x. let y = same (ap answers (sym x) ∙ k) in omega arith) (last-or-before s e t);
+            others = λ s u p k. ⊎-elim (λ t. h .others s u t k) (λ t. let y = same (ap answers (sym (t .1)) ∙ k) in omega arith) (before-or-last p);
             lower = h .lower;
           }
 
-  longest-next : (l : Longest) (x : Answer) → answers e ≡ x → LongestIs answers first e l → LongestIs answers first (suc e) (longerOf l x e)
-  longest-next l (wait w) q h = longest-wait l w q h
-  longest-next l over q h = longest-same l (λ w k. let z : _≡_ {A = ℕ} 0 1 = cc in omega arith) h
-  longest-next l halts q h = longest-same l (λ w k. let z : _≡_ {A = ℕ} 0 1 = cc in omega arith) h
-  longest-next l (unspecified a) q h = longest-same l (λ w k. let z : _≡_ {A = ℕ} 0 1 = cc in omega arith) h
+  longest-next : (l : Longest) (x : Answer) → Member e → answers e ≡ x → LongestIs Member answers first e l → LongestIs Member answers first (suc e) (longerOf l x e)
+  longest-next l (wait w) m q h = longest-wait l w m q h
+  longest-next l over m q h = longest-same l (λ i w k. let z : _≡_ {A = ℕ} 0 1 = cc in omega arith) h
+  longest-next l halts m q h = longest-same l (λ i w k. let z : _≡_ {A = ℕ} 0 1 = cc in omega arith) h
+  longest-next l (unspecified a) m q h = longest-same l (λ i w k. let z : _≡_ {A = ℕ} 0 1 = cc in omega arith) h
 
-  lowest-same : (o : Lowest) → (answers e ≡ over → ⊥) → LowestIs answers first e o → LowestIs answers first (suc e) o
-  lowest-same noOver n h = λ s p q k. ⊎-elim (λ t. h s p t k) (λ t. n (ap answers (sym t) ∙ k)) (last-or-before s e q)
+  lowest-same : (o : Lowest) → (Member e → answers e ≡ over → ⊥) → LowestIs Member answers first e o → LowestIs Member answers first (suc e) o
+  lowest-same noOver n h = λ s p k. ⊎-elim (λ t. h s t k) (λ t. n (t .0) (ap answers (sym (t .1)) ∙ k)) (before-or-last p)
   lowest-same (overAt at) n h =
       record {
-        from = h .from;
-        to = omega (arith, h .to);
+        is-start = further (h .is-start);
         exceeds = h .exceeds;
-        lowest = λ s p q k. ⊎-elim (λ t. h .lowest s p t k) (λ t. absurd (n (ap answers (sym t) ∙ k))) (last-or-before s e q);
+        lowest = λ s p k. ⊎-elim (λ t. h .lowest s t k) (λ t. absurd (n (t .0) (ap answers (sym (t .1)) ∙ k))) (before-or-last p);
       }
 
-  lowest-over : (o : Lowest) → answers e ≡ over → LowestIs answers first e o → LowestIs answers first (suc e) (lowerThan o e)
+  lowest-over : (o : Lowest) → Member e → answers e ≡ over → LowestIs Member answers first e o → LowestIs Member answers first (suc e) (lowerThan o e)
   unfolding lowerThan
-  lowest-over noOver q h =
+  lowest-over noOver m q h =
       record {
-        from = low;
-        to = omega arith;
+        is-start = the-last m;
         exceeds = q;
-        lowest = λ s r t k. ⊎-elim (λ u. absurd (h s r u k)) (λ u. omega arith) (last-or-before s e t);
+        lowest = λ s p k. ⊎-elim (λ t. absurd (h s t k)) (λ t. omega (arith, t .1)) (before-or-last p);
       }
-  lowest-over (overAt at) q h =
+  lowest-over (overAt at) m q h =
       record {
-        from = h .from;
-        to = omega (arith, h .to);
+        is-start = further (h .is-start);
         exceeds = h .exceeds;
-        lowest = λ s r t k. ⊎-elim (λ u. h .lowest s r u k) (λ u. omega (arith, h .to)) (last-or-before s e t);
+        lowest = λ s p k. ⊎-elim (λ t. h .lowest s t k) (λ t. omega (arith, t .1, h .is-start .to)) (before-or-last p);
       }
 
-  lowest-next : (o : Lowest) (x : Answer) → answers e ≡ x → LowestIs answers first e o → LowestIs answers first (suc e) (lowerOf o x e)
-  lowest-next o (wait w) q h = lowest-same o (λ k. let z : _≡_ {A = ℕ} 0 1 = cc in omega arith) h
-  lowest-next o over q h = lowest-over o q h
-  lowest-next o halts q h = lowest-same o (λ k. let z : _≡_ {A = ℕ} 0 1 = cc in omega arith) h
-  lowest-next o (unspecified a) q h = lowest-same o (λ k. let z : _≡_ {A = ℕ} 0 1 = cc in omega arith) h
+  lowest-next : (o : Lowest) (x : Answer) → Member e → answers e ≡ x → LowestIs Member answers first e o → LowestIs Member answers first (suc e) (lowerOf o x e)
+  lowest-next o (wait w) m q h = lowest-same o (λ i k. let z : _≡_ {A = ℕ} 0 1 = cc in omega arith) h
+  lowest-next o over m q h = lowest-over o m q h
+  lowest-next o halts m q h = lowest-same o (λ i k. let z : _≡_ {A = ℕ} 0 1 = cc in omega arith) h
+  lowest-next o (unspecified a) m q h = lowest-same o (λ i k. let z : _≡_ {A = ℕ} 0 1 = cc in omega arith) h
 
--- the n starts from first on
-longest-law : (n : ℕ) (answers : ℕ → Answer) (first : ℕ) → LongestIs answers first (first + n) (longestBy n answers first)
-unfolding longestBy
-longest-law zero answers first = λ s w p q k. omega arith
-longest-law (suc n) answers first =
-    let e : first + suc n ≡ suc (first + n) = omega arith in
-    rw e (longest-next answers first (first + n) (omega arith) (longestBy n answers first) (answers (first + n)) refl (longest-law n answers first))
+-- no address is one of a set and not
+not-both : {b : Bool} → b ≡ true → b ≡ false → ⊥
+not-both p q = let z : _≡_ {A = ℕ} 0 1 = cc in omega arith
 
-lowest-law : (n : ℕ) (answers : ℕ → Answer) (first : ℕ) → LowestIs answers first (first + n) (lowestBy n answers first)
-unfolding lowestBy
-lowest-law zero answers first = λ s p q k. omega arith
-lowest-law (suc n) answers first =
-    let e : first + suc n ≡ suc (first + n) = omega arith in
-    rw e (lowest-next answers first (first + n) (omega arith) (lowestBy n answers first) (answers (first + n)) refl (lowest-law n answers first))
+module _ (isStart : ℕ → Bool) (answers : ℕ → Answer) (first : ℕ) where
+  -- the starts among the n addresses from first on
+  longest-law : (n : ℕ) → LongestIs (λ a. isStart a ≡ true) answers first (first + n) (longestBy n isStart answers first)
+  unfolding longestBy
+  longest-law zero = λ s w p k. omega (arith, p .from, p .to)
+  longest-law (suc n) =
+      let e : first + suc n ≡ suc (first + n) = omega arith in
+      rw e
+      (cond-either (LongestIs (λ a. isStart a ≡ true) answers first (suc (first + n))) (isStart (first + n))
+      (λ m. longest-next _ answers first (first + n) (omega arith) (longestBy n isStart answers first) (answers (first + n)) m refl (longest-law n))
+      (λ q. longest-same _ answers first (first + n) (omega arith) (longestBy n isStart answers first) (λ m w k. not-both m q) (longest-law n)))
 
--- what the starts from first to last name is what it should be
-named-law : (answers : ℕ → Answer) (first last : ℕ) → first ≤ last → NamedIs answers first (suc last) (namedOf answers first last)
-unfolding namedOf
-named-law answers first last h =
-    let j : first + (suc last - first) ≡ suc last = omega arith in
-    record { longest-is = rw j at (longest-law (suc last - first) answers first); lowest-is = rw j at (lowest-law (suc last - first) answers first) }
+  lowest-law : (n : ℕ) → LowestIs (λ a. isStart a ≡ true) answers first (first + n) (lowestBy n isStart answers first)
+  unfolding lowestBy
+  lowest-law zero = λ s p k. omega (arith, p .from, p .to)
+  lowest-law (suc n) =
+      let e : first + suc n ≡ suc (first + n) = omega arith in
+      rw e
+      (cond-either (LowestIs (λ a. isStart a ≡ true) answers first (suc (first + n))) (isStart (first + n))
+      (λ m. lowest-next _ answers first (first + n) (omega arith) (lowestBy n isStart answers first) (answers (first + n)) m refl (lowest-law n))
+      (λ q. lowest-same _ answers first (first + n) (omega arith) (lowestBy n isStart answers first) (λ m k. not-both m q) (lowest-law n)))
 
--- .. and unless it refuses, the meter for a region names them
-pub names-its-starts : NamesItsStarts
-unfolding regionOf
-names-its-starts b first last limit =
-    let P : Report Named → Type 0 = UnlessRefused (NamedIs (answerFrom b limit) first (suc last)) in
-    unless-both P (admissionOf b) (λ r. tt)
-    (cond-either P (ltb last first) (λ e. tt)
-    (λ e. cond-both P (ltb 4096 limit) tt (named-law (answerFrom b limit) first last (ltb-false last first e))))
+  -- what the starts from first to last name is what it should be
+  pub named-law : (last : ℕ) → first ≤ last → NamedIs (λ a. isStart a ≡ true) answers first (suc last) (namedOf isStart answers first last)
+  unfolding namedOf
+  named-law last h =
+      let j : first + (suc last - first) ≡ suc last = omega arith in
+      record { longest-is = rw j at (longest-law (suc last - first)); lowest-is = rw j at (lowest-law (suc last - first)) }
+
+-- two sets that agree among the n addresses from first on
+module _ (isStart isStart′ : ℕ → Bool) (answers : ℕ → Answer) (first : ℕ) where
+  longest-agree : (n : ℕ) → ((a : ℕ) → first ≤ a → a < first + n → isStart a ≡ isStart′ a) → longestBy n isStart answers first ≡ longestBy n isStart′ answers first
+  unfolding longestBy
+  longest-agree zero h = refl
+  longest-agree (suc n) h = rw (h (first + n) (omega arith) (omega arith), longest-agree n (λ a p q. h a p (omega arith)))
+
+  lowest-agree : (n : ℕ) → ((a : ℕ) → first ≤ a → a < first + n → isStart a ≡ isStart′ a) → lowestBy n isStart answers first ≡ lowestBy n isStart′ answers first
+  unfolding lowestBy
+  lowest-agree zero h = refl
+  lowest-agree (suc n) h = rw (h (first + n) (omega arith) (omega arith), lowest-agree n (λ a p q. h a p (omega arith)))
+
+  pub named-agree : (last : ℕ) → first ≤ last → ((a : ℕ) → first ≤ a → a ≤ last → isStart a ≡ isStart′ a) → namedOf isStart answers first last ≡ namedOf isStart′ answers first last
+  unfolding namedOf
+  named-agree last low h =
+      let k : (a : ℕ) → first ≤ a → a < first + (suc last - first) → isStart a ≡ isStart′ a = λ a p q. h a p (omega arith) in
+      rw (longest-agree (suc last - first) k, lowest-agree (suc last - first) k)
+
+-- by other words for which addresses are starts
+module _ (Member Member′ : ℕ → Type 0) (same : (a : ℕ) → Member a ↔ Member′ a) (answers : ℕ → Answer) (first : ℕ) where
+  there : {end s : ℕ} → StartIn Member first end s → StartIn Member′ first end s
+  there {s = s} p = record { from = p .from; to = p .to; member = same s .0 (p .member) }
+
+  back : {end s : ℕ} → StartIn Member′ first end s → StartIn Member first end s
+  back {s = s} p = record { from = p .from; to = p .to; member = same s .1 (p .member) }
+
+  longest-alike : (end : ℕ) (l : Longest) → LongestIs Member answers first end l → LongestIs Member′ answers first end l
+  longest-alike end noWait h = λ s w p k. h s w (back p) k
+  longest-alike end (longest v at) h =
+      record { is-start = there (h .is-start); waits = h .waits; others = λ s w p k. h .others s w (back p) k; lower = λ s w p k. h .lower s w (back p) k }
+
+  lowest-alike : (end : ℕ) (o : Lowest) → LowestIs Member answers first end o → LowestIs Member′ answers first end o
+  lowest-alike end noOver h = λ s p k. h s (back p) k
+  lowest-alike end (overAt at) h = record { is-start = there (h .is-start); exceeds = h .exceeds; lowest = λ s p k. h .lowest s (back p) k }
+
+pub same-starts : SameStarts
+same-starts M M′ same answers first end n h =
+    record {
+      longest-is = longest-alike M M′ same answers first end (n .longest-wait) (h .longest-is);
+      lowest-is = lowest-alike M M′ same answers first end (n .lowest-over) (h .lowest-is);
+    }

@@ -7,3 +7,4 @@ pub mod Meter
 pub mod Reads
 pub mod Laws
 pub mod AllRam
+pub mod inner

@@ -6,6 +6,7 @@ use mathlib.Core.Bool.{Bool}
 use mathlib.Core.List.{List, _++_}
 use native.Mathlib.Omega.{arith}
 use borrow.Author.Tests.{le-ltb}
+use lib.Dec.{lit≤}
 use lib.ListN.{length, take, drop}
 use lib.Seq.{take-append-seam}
 use Rattle.word.proofs.Choice.{cond-false}
@@ -27,7 +28,8 @@ use Rattle.meter.specs.declared.LowestOver.{LowestOver}
 use Rattle.meter.specs.declared.RegionAnswer.{RegionAnswer}
 use Rattle.meter.specs.declared.RegionAnswer.the-variants.{Refused as Unmetered, Found}
 use Rattle.meter.specs.Answer.{longestOf, lowestOf, regionReport}
-use Rattle.meter.specs.Meter.{answerFrom, namedOf, regionOf}
+use Rattle.meter.specs.Meter.{answerFrom, namedOf, everyAddress, regionOf}
+use Rattle.meter.proofs.RegionLaws.{region-answers}
 use Rattle.report.specs.Regions.{meteringLimit, namedBy}
 use Rattle.report.proofs.LineLaws.{text-short}
 
@@ -72,13 +74,14 @@ module _ {board : Board} (given : board ≡ allRam) (m : List ℕ) (at : ℕ) (d
 
 module _ {board : Board} (given : board ≡ allRam) (m : List ℕ) (first last : ℕ) (x : RegionAnswer)
     (e : regionReport x ≡ regionOf (busOn board m) first last meteringLimit) (h : length m ≤ 65536) (k : first ≤ last) where
-  region-is : regionReport x ≡ answered (namedOf (answerFrom (busOn allRam m) meteringLimit) first last)
-  unfolding regionOf
+  region-is : regionReport x ≡ answered (namedOf everyAddress (answerFrom (busOn allRam m) meteringLimit) first last)
   region-is =
-      e ∙ ap (λ (b : Board). regionOf (busOn b m) first last meteringLimit) given ∙ unless-in _ _ (all-ram-in m h) ∙ cond-false _ _ (le-ltb last first k)
+      e
+      ∙ ap (λ (b : Board). regionOf (busOn b m) first last meteringLimit) given
+      ∙ region-answers (busOn allRam m) first last meteringLimit (all-ram-in m h) k (lit≤ tt)
 
   pub metered-named : {l : LongestWait} {o : LowestOver} → x ≡ Found l o
-      → namedBy (longestOf l) (lowestOf o) ≡ namedOf (answerFrom (busOn allRam m) meteringLimit) first last
+      → namedBy (longestOf l) (lowestOf o) ≡ namedOf everyAddress (answerFrom (busOn allRam m) meteringLimit) first last
   metered-named f = same-answer (ap regionReport (sym f) ∙ region-is)
 
   pub metered-surely : {A : Type 0} {r : Refusal} → x ≡ Unmetered r → A

@@ -14,7 +14,7 @@ use Rattle.image.specs.Format.{recordBytes}
 use Rattle.listing.specs.Disassemble.{entryAt, textAt}
 use Rattle.listing.proofs.Bounds.{lines-bounded}
 use Rattle.meter.specs.Answer.{Longest, noWait, longest, Lowest, noOver, overAt, Named}
-use Rattle.meter.specs.Meter.{answerFrom, namedOf}
+use Rattle.meter.specs.Meter.{answerFrom, namedOf, everyAddress}
 use Rattle.text.specs.Text.{hexOf}
 use Rattle.report.specs.declared.Program.{Program}
 use Rattle.report.specs.declared.Program.the-variants.{ListImage, MeterImage}
@@ -109,7 +109,7 @@ unfolding instructionLines regionLine
 record-size ListImage b a c h = omega (arith, lines-size c (readOf b) (a + c) a false)
 record-size MeterImage b a c h =
     let line = regionLine b a (a + (c - 1)) in
-    omega (arith, length-append (lineText line) [], named-short a (a + (c - 1)) (namedOf (answerFrom b meteringLimit) a (a + (c - 1))))
+    omega (arith, length-append (lineText line) [], named-short a (a + (c - 1)) (namedOf everyAddress (answerFrom b meteringLimit) a (a + (c - 1))))
 
 pub record-few : (program : Program) (b : Bus) (a c : ℕ) → 0 < c → length (recordLines program b a c) ≤ c
 unfolding instructionLines

@@ -17,7 +17,7 @@ use Rattle.image.specs.Read.{headOf}
 use Rattle.image.specs.Load.{loadOf}
 use Rattle.image.proofs.OutcomeLaws.{load-keeps-length}
 use Rattle.meter.specs.Walk.{limitOf, walkFrom}
-use Rattle.meter.specs.Meter.{namedOf}
+use Rattle.meter.specs.Meter.{namedOf, everyAddress}
 use Rattle.report.specs.declared.Program.{Program}
 use Rattle.report.specs.declared.Program.the-variants.{ListImage, MeterImage}
 use Rattle.report.specs.Reading.{boardNumber, inputLimit, zeroWords, recordsOf, ReadImage, loadRead, readingOf}
@@ -32,7 +32,7 @@ module _ (b c : Bus) (e : readOf b ≡ readOf c) where
   unfolding instructionLines regionLine
   record-alike ListImage address count = ap (λ (read : ℕ → ℕ). linesFrom count read (address + count) address false) e
   record-alike MeterImage address count =
-      ap (λ (read : ℕ → ℕ). namedLine address (address + (count - 1)) (namedOf (walkFrom read (limitOf meteringLimit)) address (address + (count - 1))) ∷ []) e
+      ap (λ (read : ℕ → ℕ). namedLine address (address + (count - 1)) (namedOf everyAddress (walkFrom read (limitOf meteringLimit)) address (address + (count - 1))) ∷ []) e
 
   records-alike : (program : Program) (rs : List Record) → recordsLines program b rs ≡ recordsLines program c rs
   records-alike program [] = refl

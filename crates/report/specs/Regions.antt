@@ -4,7 +4,7 @@ use Prim.Native.Nat.{ℕ, _+_, _-_}
 use mathlib.Core.List.{List, [], _∷_, _++_}
 use Rattle.memory.specs.Bus.{Bus}
 use Rattle.meter.specs.Answer.{Longest, noWait, longest, Lowest, noOver, overAt, Named}
-use Rattle.meter.specs.Meter.{answerFrom, namedOf}
+use Rattle.meter.specs.Meter.{answerFrom, namedOf, everyAddress}
 use Rattle.text.specs.Text.{codes, hexOf}
 use Rattle.report.specs.Text.{space}
 
@@ -32,7 +32,7 @@ namedLine first last named =
 
 -- the line of the region from first to last
 unfoldable pub regionLine : Bus → ℕ → ℕ → List ℕ
-regionLine b first last = namedLine first last (namedOf (answerFrom b meteringLimit) first last)
+regionLine b first last = namedLine first last (namedOf everyAddress (answerFrom b meteringLimit) first last)
 
 -- a record of so many words, of which there is one or more
 abbrev pub regionLines : Bus → ℕ → ℕ → List (List ℕ)

@@ -1,0 +1,2 @@
+-- Definitions in the code's shape.
+pub mod Stretch
