@@ -1,8 +1,9 @@
 -- A set of addresses in lent words: document 02, [4]: "one bit an address, 64 to a word, lowest bit first".
 use Prim.Native.Nat.{ℕ, zero, suc, _+_, _/_, _%_, _^_, _<_}
 use mathlib.Core.Path.{_≡_}
-use mathlib.Core.Bool.{Bool, cond, _||_}
+use mathlib.Core.Bool.{Bool, not, cond, _||_}
 use mathlib.Core.List.{List}
+use lib.Dec.{eqb}
 use lib.ListN.{length, getD, set}
 use lib.Bits.{bitOr}
 use Rattle.word.specs.Word.{bit}
@@ -12,6 +13,10 @@ use Rattle.bitset.specs.declared.Lowest.the-variants.{Nothing, At}
 -- "a set buffer .. of 1,024 words": one bit for each of 65,536 addresses
 abbrev pub setLength : ℕ
 setLength = 1024
+
+-- refusal 18: "a set buffer not of 1,024 words"
+abbrev pub isWrongLength : List ℕ → Bool
+isWrongLength buffer = not (eqb (length buffer) setLength)
 
 -- an address is in the set; words past the end have no members
 unfoldable pub contains : List ℕ → ℕ → Bool

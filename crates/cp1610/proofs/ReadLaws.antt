@@ -26,7 +26,7 @@ use Rattle.cp1610.specs.MapWords.{rangeAt, rangesTo, boardOf, kindsTo, i
 use Rattle.cp1610.specs.Answers.{successWord, runLength, runWords}
 use Rattle.cp1610.specs.Called.{items, Called, called, callBy}
 use Rattle.cp1610.specs.Call.{resetCall, stepCall, runCall}
-use Rattle.cp1610.specs.MeterCall.{walkedWord, waitCall, regionLength, regionWords, regionCall}
+use Rattle.cp1610.specs.MeterCall.{walkedWord, waitCall, regionLength, regionWords, namedCall, regionCall, regionReachedCall}
 use Rattle.cp1610.specs.ListingCall.{lineWords, assembleCall, listLength, listWords, listCall}
 use Rattle.cp1610.specs.ImageCall.{countedCall, loadCall, writeCall}
 use Rattle.cp1610.specs.PairCall.{loadPairCall, pairLength, pairWords, writePairCall}
@@ -44,6 +44,7 @@ use Rattle.cp1610.specs.Calls.{
   cp1610-load-pair,
   cp1610-write-pair,
   cp1610-reach,
+  cp1610-region-reached,
 }
 use Rattle.cp1610.specs.Read.{
   itemsIn,
@@ -75,6 +76,7 @@ use Rattle.cp1610.proofs.ReportLaws.{
   told-pair-loading,
   told-pair-writing,
   told-reach,
+  told-region-reached,
 }
 
 -- reset
@@ -140,6 +142,14 @@ read-named out noWait (overAt start) = refl
 read-named out (longest n start) noOver = refl
 read-named out (longest n start) (overAt over-start) = refl
 
+-- the meter for a region, in either mode
+read-region : (map out : List ℕ) (report : Report Named) → Told Unit (λ (x : Named). Unit) report → regionLength ≤ length out → isMap map ≡ true →
+    readReport readNamed (callBy (namedCall map out report)) ≡ report
+read-region map out report told h whole =
+    by-told Unit (λ (x : Named). Unit) (namedCall map out report) (λ r c. readReport readNamed c ≡ r) (rw (le-ltb (length out) regionLength h, whole)) told
+    (λ n low k. rw low)
+    (λ x k. rw (success-high 1 0 (lit≤ tt), read-named out (x .longest-wait) (x .lowest-over)))
+
 -- list
 read-listing : (map : List ℕ) (mem : Bus) (address d : ℕ) (text out : List ℕ) →
     listLength ≤ length out →
@@ -199,7 +209,7 @@ read-summary clear set out n m none = refl
 read-summary clear set out n m (lowestAt a) = refl
 
 pub reads-the-answer : ReadsTheAnswer
-unfolding waitCall regionCall assembleCall loadCall writeCall loadPairCall reachCall
+unfolding waitCall regionCall assembleCall loadCall writeCall loadPairCall reachCall regionReachedCall
 reads-the-answer (cp1610-reset state) h = read-reset state h
 reads-the-answer (cp1610-step state mem map lines) h = read-step state map (onMap map mem) lines (h .0) (h .1)
 reads-the-answer (cp1610-run state mem map lines budget out) h = read-run state map (onMap map mem) lines budget out (h .0) (h .1) (h .2)
@@ -207,11 +217,7 @@ reads-the-answer (cp1610-wait mem map address limit) h =
     by-told Unit Fits (waitCall map (onMap map mem) address limit) (λ r c. readReport readWalk c ≡ r) (rw (h .0)) (told-wait (onMap map mem) address limit (h .1))
     (λ n low k. rw low)
     read-walked
-reads-the-answer (cp1610-region mem map first last limit out) h =
-    by-told Unit (λ (x : Named). Unit) (regionCall map (onMap map mem) first last limit out) (λ r c. readReport readNamed c ≡ r)
-    (rw (le-ltb (length out) regionLength (h .0), h .1)) (told-region (onMap map mem) first last limit)
-    (λ n low k. rw low)
-    (λ x k. rw (success-high 1 0 (lit≤ tt), read-named out (x .longest-wait) (x .lowest-over)))
+reads-the-answer (cp1610-region mem map first last limit out) h = read-region map out _ (told-region (onMap map mem) first last limit) (h .0) (h .1)
 reads-the-answer (cp1610-list mem map address d text out) h = read-listing map (onMap map mem) address d text out (h .0) (h .1)
 reads-the-answer (cp1610-assemble line d words) h =
     by-told Unit (λ (ws : List ℕ). length ws ≤ lineWords) (assembleCall line d words) (λ r c. readReport readAssembled c ≡ r)
@@ -235,6 +241,8 @@ reads-the-answer (cp1610-reach mem map entries clear set out clear′ set′) h 
     (rw (le-ltb (length out) reachLength (h .0), h .1)) (told-reach (onMap map mem) entries clear set clear′ set′)
     (λ n low k. rw low)
     (λ x k. rw (success-high 1 0 (lit≤ tt), read-summary clear′ set′ out (x .addresses) (x .writers) (x .lowest-writer)))
+reads-the-answer (cp1610-region-reached mem map first last limit clear set out) h =
+    read-region map out _ (told-region-reached (onMap map mem) first last limit clear set) (h .0) (h .1)
 
 pub header-map : HeaderMap
 unfolding isMap kindsTo boardOf rangesTo rangeAt listedIn
@@ -256,4 +264,5 @@ shortest-are-well-lent =
       assemble = λ line d. lit≤ tt;
       write-pair = λ mem first last bin cfg. lit≤ tt;
       reach = λ mem entries clear set clear′ set′. (lit≤ tt, no-ranges);
+      region-reached = λ mem first last limit clear set. (lit≤ tt, no-ranges);
     }

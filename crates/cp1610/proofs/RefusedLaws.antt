@@ -10,7 +10,7 @@ use Rattle.cp1610.specs.Words.{unpacked, linesOf}
 use Rattle.cp1610.specs.MapWords.{onMap}
 use Rattle.cp1610.specs.Answers.{isRefusal}
 use Rattle.cp1610.specs.Call.{resetCall, stepCall, runCall}
-use Rattle.cp1610.specs.MeterCall.{walkedWord, waitCall, regionCall}
+use Rattle.cp1610.specs.MeterCall.{walkedWord, waitCall, regionCall, regionReachedCall}
 use Rattle.cp1610.specs.ListingCall.{listCall, assembleCall}
 use Rattle.cp1610.specs.ImageCall.{loadCall, writeCall}
 use Rattle.cp1610.specs.PairCall.{loadPairCall, writePairCall}
@@ -28,6 +28,7 @@ use Rattle.cp1610.specs.Calls.{
   cp1610-load-pair,
   cp1610-write-pair,
   cp1610-reach,
+  cp1610-region-reached,
   RefusedAltersNothing,
 }
 use Rattle.cp1610.proofs.AnswerLaws.{success-high}
@@ -40,7 +41,7 @@ walked-high halts = success-high 3 0 (lit≤ tt)
 walked-high (unspecified address) = success-high 4 address (lit≤ tt)
 
 pub refused-alters-nothing : RefusedAltersNothing
-unfolding resetCall stepCall runCall waitCall regionCall listCall assembleCall loadCall writeCall loadPairCall writePairCall reachCall
+unfolding resetCall stepCall runCall waitCall regionCall listCall assembleCall loadCall writeCall loadPairCall writePairCall reachCall regionReachedCall
 refused-alters-nothing (cp1610-reset state) = refused-keeps (resetCall state) (λ m e. success-high 1 0 (lit≤ tt))
 refused-alters-nothing (cp1610-step state mem map lines) =
     refused-keeps (stepCall state map (onMap map mem) lines)
@@ -65,3 +66,5 @@ refused-alters-nothing (cp1610-write-pair mem first last bin cfg out) =
     refused-keeps (writePairCall mem first last bin cfg out) (λ n e. success-high 1 0 (lit≤ tt))
 refused-alters-nothing (cp1610-reach mem map entries clear set out clear′ set′) =
     refused-keeps (reachCall map (onMap map mem) entries clear set out clear′ set′) (λ x e. success-high 1 0 (lit≤ tt))
+refused-alters-nothing (cp1610-region-reached mem map first last limit clear set out) =
+    refused-keeps (regionReachedCall map (onMap map mem) first last limit clear set out) (λ n e. success-high 1 0 (lit≤ tt))

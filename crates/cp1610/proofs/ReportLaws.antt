@@ -49,7 +49,7 @@ use Rattle.meter.specs.Walk.{
   walkOn,
   walkFrom,
 }
-use Rattle.meter.specs.Meter.{waitOf, scanAdmission, regionOf}
+use Rattle.meter.specs.Meter.{waitOf, scanAdmission, regionOf, regionReachedOf}
 use Rattle.listing.specs.Disassemble.{entryAt, textAt, Disassembly, listedDisassembly, disassembleOf}
 use Rattle.text.specs.Text.{sameText}
 use Rattle.listing.specs.Cut.{cutWords, cutAt}
@@ -66,7 +66,8 @@ use Rattle.pair.specs.Answer.{PairLengths}
 use Rattle.pair.specs.Write.{PairWriting, writePairOf}
 use Rattle.pair.proofs.OutcomeLaws.{pair-refuses-or-loads, pair-refuses-or-writes, answers-lengths}
 use Rattle.reach.specs.Summary.{SetSummary}
-use Rattle.reach.specs.Reach.{mostEntries, isWrongLength, reachOf}
+use Rattle.bitset.specs.Bits.{isWrongLength}
+use Rattle.reach.specs.Reach.{mostEntries, reachOf}
 use Rattle.cp1610.specs.Answers.{isRefusal}
 use Rattle.cp1610.specs.ListingCall.{lineWords}
 use Rattle.cp1610.proofs.AnswerLaws.{number-low}
@@ -158,6 +159,12 @@ told-wait b address limit here =
 pub told-region : (b : Bus) (first last limit : ℕ) → Told Unit (λ x. Unit) (regionOf b first last limit)
 unfolding regionOf
 told-region b first last limit = unless-both (Told Unit (λ x. Unit)) (scanAdmission b first last limit) (λ r. (number-low r, tt)) tt
+
+pub told-region-reached : (b : Bus) (first last limit : ℕ) (clear set : List ℕ) → Told Unit (λ x. Unit) (regionReachedOf b first last limit clear set)
+unfolding regionReachedOf
+told-region-reached b first last limit clear set =
+    unless-both (Told Unit (λ x. Unit)) (scanAdmission b first last limit) (λ r. (number-low r, tt))
+    (cond-both (Told Unit (λ x. Unit)) (isWrongLength clear || isWrongLength set) (number-low WrongSetLength, tt) tt)
 
 -- a line's text is short
 abbrev pub ToldListing : List ℕ → Disassembly → Type 0

@@ -7,7 +7,7 @@ use Rattle.cp1610.specs.MapWords.{onMap}
 use Rattle.cp1610.specs.Answers.{isRefusal}
 use Rattle.cp1610.specs.Called.{Lent, items, memory, Called, callBy}
 use Rattle.cp1610.specs.Call.{resetCall, stepCall, runCall}
-use Rattle.cp1610.specs.MeterCall.{waitCall, regionCall}
+use Rattle.cp1610.specs.MeterCall.{waitCall, regionCall, regionReachedCall}
 use Rattle.cp1610.specs.ListingCall.{listCall, assembleCall}
 use Rattle.cp1610.specs.ImageCall.{loadCall, writeCall}
 use Rattle.cp1610.specs.PairCall.{loadPairCall, writePairCall}
@@ -28,6 +28,7 @@ pub data Call : Type 0 where
   cp1610-write-pair : (mem : List ℕ) (first last : ℕ) (bin cfg out : List ℕ) → Call
   -- the last two are what a success leaves in `clear` and `set`
   cp1610-reach : (mem map entries clear set out clear′ set′ : List ℕ) → Call
+  cp1610-region-reached : (mem map : List ℕ) (first last limit : ℕ) (clear set out : List ℕ) → Call
 
 -- all that it leaves: each function's contract says that it leaves this. What decodes sees the caller's words on the board of its map; the calls of
 -- files see the words.
@@ -44,6 +45,7 @@ callOf (cp1610-write board mem first last room) = callBy (writeCall board mem fi
 callOf (cp1610-load-pair mem bin cfg) = callBy (loadPairCall mem bin cfg)
 callOf (cp1610-write-pair mem first last bin cfg out) = callBy (writePairCall mem first last bin cfg out)
 callOf (cp1610-reach mem map entries clear set out clear′ set′) = callBy (reachCall map (onMap map mem) entries clear set out clear′ set′)
+callOf (cp1610-region-reached mem map first last limit clear set out) = callBy (regionReachedCall map (onMap map mem) first last limit clear set out)
 
 -- the table's arguments that are marked `mut`
 abbrev pub lentTo : Call → List Lent
@@ -59,6 +61,7 @@ lentTo (cp1610-write board mem first last room) = items room ∷ []
 lentTo (cp1610-load-pair mem bin cfg) = items mem ∷ []
 lentTo (cp1610-write-pair mem first last bin cfg out) = items bin ∷ items cfg ∷ items out ∷ []
 lentTo (cp1610-reach mem map entries clear set out clear′ set′) = items clear ∷ items set ∷ items out ∷ []
+lentTo (cp1610-region-reached mem map first last limit clear set out) = items out ∷ []
 
 -- "A refused call alters nothing at all: not the state, its words 8 to 17 included, not memory, not `out`, not `text`, not `words`,
 -- not the room."

@@ -32,6 +32,7 @@ use Rattle.cp1610.specs.Calls.{
   cp1610-assemble,
   cp1610-write-pair,
   cp1610-reach,
+  cp1610-region-reached,
   callOf,
 }
 use Rattle.cp1610.specs.Read.{itemsIn, memoryIn, readStep, readListing, answerTo, readBack, WellLent}
@@ -75,6 +76,7 @@ pub record ShortestAreWellLent : Type 0 where
   pub assemble : (line : List ℕ) (d : ℕ) → WellLent (cp1610-assemble line d (replicate lineWords 0))
   pub write-pair : (mem : List ℕ) (first last : ℕ) (bin cfg : List ℕ) → WellLent (cp1610-write-pair mem first last bin cfg (replicate pairLength 0))
   pub reach : (mem entries clear set clear′ set′ : List ℕ) → WellLent (cp1610-reach mem [] entries clear set (replicate reachLength 0) clear′ set′)
+  pub region-reached : (mem : List ℕ) (first last limit : ℕ) (clear set : List ℕ) → WellLent (cp1610-region-reached mem [] first last limit clear set (replicate regionLength 0))
 
 -- what `cp1610_reach` leaves is one thing, though its rule names the buffers as they are left: `HoldsSet` fixes them
 abbrev pub ReachCallIsOne : Type 0

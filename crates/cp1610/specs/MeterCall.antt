@@ -6,10 +6,10 @@ use lib.ListN.{drop}
 use Rattle.refusal.specs.Report.{Report, refused, answered}
 use Rattle.memory.specs.Bus.{Bus}
 use Rattle.meter.specs.Answer.{Answer, wait, over, halts, unspecified, Longest, noWait, longest, Lowest, noOver, overAt, Named}
-use Rattle.meter.specs.Meter.{waitOf, regionOf}
+use Rattle.meter.specs.Meter.{waitOf, regionOf, regionReachedOf}
 use Rattle.cp1610.specs.MapWords.{isMap}
 use Rattle.cp1610.specs.Answers.{successWord}
-use Rattle.cp1610.specs.Called.{items, called, isShort, CallRule}
+use Rattle.cp1610.specs.Called.{items, Called, called, isShort, CallRule, byReport}
 
 -- "kind 1 Wait (value = cycles), 2 Over, 3 Halts, 4 Unspecified (value = address)"
 abbrev pub walkedWord : Answer → ℕ
@@ -48,12 +48,27 @@ lowestWords (overAt start) = 1 ∷ start ∷ []
 unfoldable pub regionWords : List ℕ → Longest → Lowest → List ℕ
 regionWords out l o = longestWords l ++ lowestWords o ++ drop regionLength out
 
--- document 01's wait meter for a region: "kind 1"
-unfoldable pub regionCall : List ℕ → Bus → ℕ → ℕ → ℕ → List ℕ → CallRule Named
-regionCall map b first last limit out =
+-- what a region names, as the caller sees it: "kind 1"
+abbrev pub namedSuccess : List ℕ → Named → Called
+namedSuccess out n = called (successWord 1 0) (items (regionWords out (n .longest-wait) (n .lowest-over)) ∷ [])
+
+-- .. by a report
+abbrev pub namedAnswer : List ℕ → Report Named → Called
+namedAnswer out report = byReport (items out ∷ []) (namedSuccess out) report
+
+abbrev pub namedCall : List ℕ → List ℕ → Report Named → CallRule Named
+namedCall map out report =
     record {
       short = isShort regionLength out || not (isMap map);
       before = items out ∷ [];
-      report = regionOf b first last limit;
-      success = λ n. called (successWord 1 0) (items (regionWords out (n .longest-wait) (n .lowest-over)) ∷ []);
+      report = report;
+      success = namedSuccess out;
     }
+
+-- document 01's wait meter for a region
+unfoldable pub regionCall : List ℕ → Bus → ℕ → ℕ → ℕ → List ℕ → CallRule Named
+regionCall map b first last limit out = namedCall map out (regionOf b first last limit)
+
+-- document 02's second mode of it
+unfoldable pub regionReachedCall : List ℕ → Bus → ℕ → ℕ → ℕ → List ℕ → List ℕ → List ℕ → CallRule Named
+regionReachedCall map b first last limit clear set out = namedCall map out (regionReachedOf b first last limit clear set)

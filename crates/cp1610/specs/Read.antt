@@ -12,7 +12,7 @@ use Rattle.cpu.specs.Answer.{StepDone}
 use Rattle.cpu.specs.Step.{Outcome, stepOf}
 use Rattle.run.specs.Run.{RunDone, RunOutcome, runOf}
 use Rattle.meter.specs.Answer.{Answer, wait, over, halts, unspecified, noWait, longest, noOver, overAt, Named}
-use Rattle.meter.specs.Meter.{waitOf, regionOf}
+use Rattle.meter.specs.Meter.{waitOf, regionOf, regionReachedOf}
 use Rattle.listing.specs.Answer.{ListedLine}
 use Rattle.listing.specs.Disassemble.{Disassembly, disassembleOf}
 use Rattle.listing.specs.Assemble.{assembleOf}
@@ -47,6 +47,7 @@ use Rattle.cp1610.specs.Calls.{
   cp1610-load-pair,
   cp1610-write-pair,
   cp1610-reach,
+  cp1610-region-reached,
 }
 
 -- the items and the bus of what is lent
@@ -163,6 +164,7 @@ AnswerTo (cp1610-write board mem first last room) = Writing
 AnswerTo (cp1610-load-pair mem bin cfg) = Loading
 AnswerTo (cp1610-write-pair mem first last bin cfg out) = PairWriting
 AnswerTo (cp1610-reach mem map entries clear set out clear′ set′) = Report SetSummary
+AnswerTo (cp1610-region-reached mem map first last limit clear set out) = Report Named
 
 abbrev pub answerTo : (c : Call) → AnswerTo c
 answerTo (cp1610-reset state) = answered resetMachine
@@ -177,6 +179,7 @@ answerTo (cp1610-write board mem first last room) = writeOf board mem first last
 answerTo (cp1610-load-pair mem bin cfg) = loadPairOf mem bin cfg
 answerTo (cp1610-write-pair mem first last bin cfg out) = writePairOf mem first last bin cfg
 answerTo (cp1610-reach mem map entries clear set out clear′ set′) = reachOf (onMap map mem) entries clear set clear′ set′
+answerTo (cp1610-region-reached mem map first last limit clear set out) = regionReachedOf (onMap map mem) first last limit clear set
 
 -- how a caller reads it
 abbrev pub readBack : (c : Call) → Called → AnswerTo c
@@ -192,6 +195,7 @@ readBack (cp1610-write board mem first last room) = readWriting
 readBack (cp1610-load-pair mem bin cfg) = readLoading
 readBack (cp1610-write-pair mem first last bin cfg out) = readPairWriting
 readBack (cp1610-reach mem map entries clear set out clear′ set′) = readReport readSummary
+readBack (cp1610-region-reached mem map first last limit clear set out) = readReport readNamed
 
 -- what a caller has to see to: buffers as long as the table says, and words that are a map; an address has 16 bits by its type
 abbrev pub WellLent : Call → Type 0
@@ -207,3 +211,4 @@ WellLent (cp1610-write board mem first last room) = Unit
 WellLent (cp1610-load-pair mem bin cfg) = Unit
 WellLent (cp1610-write-pair mem first last bin cfg out) = pairLength ≤ length out
 WellLent (cp1610-reach mem map entries clear set out clear′ set′) = (reachLength ≤ length out) × (isMap map ≡ true)
+WellLent (cp1610-region-reached mem map first last limit clear set out) = (regionLength ≤ length out) × (isMap map ≡ true)

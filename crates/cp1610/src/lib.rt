@@ -18,11 +18,11 @@ ghost use Rattle.cp1610.specs.Calls.{
   cp1610-load-pair,
   cp1610-write-pair,
   cp1610-reach,
+  cp1610-region-reached,
 };
 ghost use Rattle.cp1610.specs.ReachCall.{HoldsSet};
 use image::WriteAnswer;
 use listing::Listing;
-use meter::RegionAnswer;
 use pair::PairAnswer;
 use reach::ReachAnswer;
 use run::RunAnswer;
@@ -154,14 +154,7 @@ pub extern "C" fn cp1610_region(
         return answers::SHORT_BUFFER;
     }
     let board = read.board;
-    let answer = meter::region(board, mem, first, last, limit);
-    match answer {
-        RegionAnswer::Refused(refusal) => refusal::number(refusal) as u64,
-        RegionAnswer::Found { longest, lowest } => {
-            meter_words::put_region(out, longest, lowest);
-            answers::success(answers::DONE, 0)
-        }
-    }
+    meter_words::region_word(out, meter::region(board, mem, first, last, limit))
 }
 
 // The line at an address. `out` is written only once it is known that the listing was not refused.
@@ -311,4 +304,33 @@ pub extern "C" fn cp1610_reach(
             answers::success(answers::DONE, 0)
         }
     }
+}
+
+// The wait meter for the members of a set in a region. `out` is written only once it is known that the region was not refused.
+#[no_mangle]
+pub extern "C" fn cp1610_region_reached(
+    mem: &[u16],
+    map: &[u16],
+    first: u16,
+    last: u16,
+    limit: u16,
+    clear: &[u64],
+    set: &[u64],
+    out: &mut [u32],
+) -> u64
+    ensures { λ r. ⌜ called r (items (now (out .exit)) ∷ [])
+        ≡ callOf (cp1610-region-reached (now (mem .entry)) (now (map .entry)) first last limit (now (clear .entry)) (now (set .entry)) (now (out .entry))) ⌝ }
+{
+    if out.len() < meter_words::REGION_LENGTH {
+        return answers::SHORT_BUFFER;
+    }
+    let read = map_words::read_map(map);
+    if !read.whole {
+        return answers::SHORT_BUFFER;
+    }
+    let board = read.board;
+    meter_words::region_word(
+        out,
+        meter::region_reached(board, mem, first, last, limit, clear, set),
+    )
 }

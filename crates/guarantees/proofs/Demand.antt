@@ -19,7 +19,7 @@ use Rattle.meter.specs.Meter.{waitOf}
 use Rattle.meter.specs.Reads.{readsOn, readsFrom}
 use Rattle.meter.proofs.WalkLaws.{walk-equation, answers-the-walk, wait-admitted}
 use Rattle.meter.proofs.ReadLaws.{reads-equation}
-use Rattle.meter.proofs.RegionLaws.{names-its-starts}
+use Rattle.meter.proofs.RegionLaws.{names-its-starts, names-its-members}
 use Rattle.guarantees.specs.Grants.{beforeGrant, lastUntaken}
 use Rattle.guarantees.specs.Demand.{Premises, Waits, Foretells, Demand3}
 use Rattle.guarantees.proofs.GrantLaws.{grant-laws}
@@ -80,4 +80,5 @@ demand3 =
       answers = answers-the-walk;
       steps = steps;
       regions = names-its-starts;
+      members = names-its-members;
     }

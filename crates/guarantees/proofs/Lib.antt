@@ -6,3 +6,4 @@ pub mod FollowLaws
 pub mod Demand
 pub mod AllRam
 pub mod Pairs
+pub mod Reached

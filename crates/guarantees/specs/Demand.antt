@@ -14,7 +14,7 @@ use Rattle.meter.specs.Answer.{wait, over}
 use Rattle.meter.specs.Walk.{limitOf}
 use Rattle.meter.specs.Meter.{waitOf}
 use Rattle.meter.specs.Reads.{readsFrom}
-use Rattle.meter.specs.Laws.{WalkEquation, ReadsEquation, AnswersTheWalk, NamesItsStarts}
+use Rattle.meter.specs.Laws.{WalkEquation, ReadsEquation, AnswersTheWalk, NamesItsStarts, NamesItsMembers}
 use Rattle.guarantees.specs.Grants.{grants, beforeGrant, lastUntaken}
 use Rattle.guarantees.specs.Unstored.{Unstored}
 
@@ -72,3 +72,5 @@ pub record Demand3 : Type 0 where
   pub steps : (m : Machine) (b : Bus) (ls : List Lines) (limit : ℕ) → Premises m b ls limit → Foretells m b ls limit
   -- "For a region, unless the call is refused, the longest wait that this walk answers, if any, and its lowest start are named"
   pub regions : NamesItsStarts
+  -- document 02, [4]: "Demand 3 for this mode ranges over members only."
+  pub members : NamesItsMembers

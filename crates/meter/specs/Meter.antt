@@ -1,16 +1,15 @@
 -- Document 01, "Wait meter": the two calls, and the second mode of document 02, [4]; with their refusals.
 use Prim.Native.Nat.{ℕ, suc, _-_}
-use mathlib.Core.Bool.{Bool, true, cond, not, _||_}
+use mathlib.Core.Bool.{Bool, true, cond, _||_}
 use mathlib.Core.List.{List}
-use lib.Dec.{eqb, ltb}
-use lib.ListN.{length}
+use lib.Dec.{ltb}
 use Rattle.refusal.specs.declared.Refusal.the-variants.{FirstAboveLast, LimitTooHigh, WrongSetLength}
 use Rattle.refusal.specs.Refusals.{refusalNumber}
 use Rattle.refusal.specs.Report.{Report, refused, answered}
 use Rattle.memory.specs.declared.Admission.{Admission}
 use Rattle.memory.specs.declared.Admission.the-variants.{Admitted, Barred}
 use Rattle.memory.specs.Bus.{Bus, readOf, admissionOf, unlessBarred}
-use Rattle.bitset.specs.Bits.{setLength, contains}
+use Rattle.bitset.specs.Bits.{isWrongLength, contains}
 use Rattle.meter.specs.Answer.{Answer, Named}
 use Rattle.meter.specs.Walk.{highestLimit, limitOf, walkFrom}
 use Rattle.meter.specs.Scan.{longestBy, lowestBy}
@@ -58,5 +57,5 @@ regionOf b first last limit =
 unfoldable pub regionReachedOf : Bus → ℕ → ℕ → ℕ → List ℕ → List ℕ → Report Named
 regionReachedOf b first last limit clear set =
     unlessBarred (scanAdmission b first last limit) (λ r. refused (refusalNumber r))
-    (cond (not (eqb (length clear) setLength) || not (eqb (length set) setLength)) (refused (refusalNumber WrongSetLength))
+    (cond (isWrongLength clear || isWrongLength set) (refused (refusalNumber WrongSetLength))
     (answered (namedOf (contains clear) (answerFrom b limit) first last)))

@@ -15,7 +15,7 @@ use Rattle.memory.specs.declared.Admission.the-variants.{Admitted, Barred}
 use Rattle.memory.specs.Bus.{Bus, readOf, admissionOf, unlessBarred}
 use Rattle.bitset.specs.declared.Lowest.{Lowest}
 use Rattle.bitset.specs.declared.Lowest.the-variants.{Nothing, At}
-use Rattle.bitset.specs.Bits.{contains, inEither, LowestOrNone, none, lowestAt, lowestOrNone, SetBuffer}
+use Rattle.bitset.specs.Bits.{contains, inEither, LowestOrNone, none, lowestAt, lowestOrNone, isWrongLength, SetBuffer}
 use Rattle.bitset.proofs.SetLaws.{same-members}
 use Rattle.reach.specs.declared.Node.{Node}
 use Rattle.reach.specs.declared.ReachAnswer.the-variants.{Refused, Built}
@@ -23,7 +23,7 @@ use Rattle.reach.specs.Ways.{nodeAt, successors}
 use Rattle.reach.specs.Paths.{Reached}
 use Rattle.reach.specs.Summary.{SetSummary, summaryOf}
 use Rattle.reach.specs.Answer.{reachReport}
-use Rattle.reach.specs.Reach.{ReachedSet, mostEntries, isWrongLength, reachOf, Unmoved, LeavesSet, Reaches}
+use Rattle.reach.specs.Reach.{ReachedSet, mostEntries, reachOf, Unmoved, LeavesSet, Reaches}
 use Rattle.reach.specs.Laws.{ReachedSetIsOne, SameOutcome, ReachIsOne, RefusesAlike, ReachedAddress, SummaryLaws, ReachAnswersApart}
 use Rattle.reach.specs.inner.Explore.{marked}
 use Rattle.reach.proofs.SummaryLaws.{same-bool, or-true, writer-is, is-writer}

@@ -1,16 +1,16 @@
 -- Document 02, [4]: the set of reached addresses. The call answers by `reachOf`, and leaves in the two lent buffers what `Leaves` says.
 use Prim.Native.Nat.{ℕ}
 use mathlib.Core.Path.{_≡_}
-use mathlib.Core.Bool.{Bool, true, false, cond, not, _||_}
+use mathlib.Core.Bool.{true, false, cond, _||_}
 use mathlib.Core.List.{List}
 use mathlib.Core.Logic.{_↔_}
-use lib.Dec.{eqb, ltb}
+use lib.Dec.{ltb}
 use lib.ListN.{length}
 use Rattle.refusal.specs.declared.Refusal.the-variants.{TooManyEntries, WrongSetLength}
 use Rattle.refusal.specs.Refusals.{refusalNumber}
 use Rattle.refusal.specs.Report.{Report, refused, answered}
 use Rattle.memory.specs.Bus.{Bus, readOf, admissionOf, unlessBarred}
-use Rattle.bitset.specs.Bits.{contains, setLength, SetBuffer}
+use Rattle.bitset.specs.Bits.{contains, isWrongLength, SetBuffer}
 use Rattle.reach.specs.declared.Node.{Node}
 use Rattle.reach.specs.Ways.{nodeAt, successors}
 use Rattle.reach.specs.Paths.{Reached}
@@ -27,10 +27,6 @@ pub record ReachedSet (next : Node → List Node) (entries clear set : List ℕ)
 -- "from up to 16 entry points"
 abbrev pub mostEntries : ℕ
 mostEntries = 16
-
--- "a set buffer not of 1,024 words"
-abbrev pub isWrongLength : List ℕ → Bool
-isWrongLength buffer = not (eqb (length buffer) setLength)
 
 -- What the call answers: refusals 1, 14, 17 and 18, and else the summary of the buffers as they are left. The first two lists of words are the buffers
 -- that are lent, the last two what is left in them.

@@ -12,44 +12,13 @@ returns c = rw (lt-ltb _ _ (c .if1 .taken))
 
 returns-2 : tie.Need-returns-2
 unfolding regionCall
-returns-2 c =
-    let reading = c .before .before in
-    rw (le-ltb _ _ (reading .before .if1 .left), ← reading .read-map .ensures .1, c .if2 .taken)
+returns-2 c = rw (le-ltb _ _ (c .before .before .before .if1 .left), ← c .before .before .read-map .ensures .1, c .if2 .taken)
 
 returns-3 : tie.Need-returns-3
 unfolding regionCall
 returns-3 c =
-    let asked = c .before .before .before .before in
-    let whole = asked .before .before in
-    let reading = whole .before .before in
-    let made = reading .read-map .ensures in
-    rw (
-      le-ltb _ _ (reading .before .if1 .left),
-      sym (made .1) ∙ not-false _ (whole .if2 .left),
-      ← made .0,
-      ← asked .region .ensures,
-      c .before .before .answer .given .1,
-      c .number .ensures,
-    )
-
-returns-4 : tie.Need-returns-4
-unfolding regionCall
-returns-4 c =
-    let putting = c .before .before .before in
-    let answering = putting .before .before .before in
-    let asked = answering .before .before in
-    let whole = asked .before .before in
-    let reading = whole .before .before in
-    let made = reading .read-map .ensures in
-    rw (
-      c .success .ensures,
-      putting .put-region .ensures,
-      le-ltb _ _ (reading .before .if1 .left),
-      sym (made .1) ∙ not-false _ (whole .if2 .left),
-      ← made .0,
-      ← asked .region .ensures,
-      answering .answer2 .given .1,
-    )
+    let made = c .before .before .before .before .before .before .before .before .read-map .ensures in
+    rw (le-ltb _ _ (c .before .before .before .before .before .before .before .before .before .if1 .left), sym (made .1) ∙ not-false _ (c .before .before .before .before .before .before .if2 .left), ← made .0, ← c .before .before .before .region .ensures) (c .before .before .region-word .ensures)
 
 pub cp1610-region-spec : {M : Type 1} → statement M
 cp1610-region-spec =
@@ -59,12 +28,6 @@ cp1610-region-spec =
     (λ c κs. search needs)
     returns-2
     (λ c κs. search needs)
-    (λ c. search needs)
     (λ c κs. search needs)
     (λ c. search needs)
-    (λ c. search needs)
-    (λ c κs. search needs)
-    (λ c κs. search needs)
-    returns-3
-    (λ c. search needs)
-    returns-4)
+    returns-3)
