@@ -1,7 +1,8 @@
 /* The CP1610 board kit's C interface: link with libcp1610.a. docs/C-INTERFACE.md is its page.
  *
  * Every function is total as long as each pointer is valid for its length, in items (a length of 0 may have any pointer), and
- * no buffer that is written overlaps another. A buffer longer than said is taken; the items past what is named stay. */
+ * no buffer that is written overlaps another. A buffer longer than said is taken, but for those of a set; the items past what is named
+ * stay. */
 #ifndef CP1610_H
 #define CP1610_H
 
@@ -9,7 +10,7 @@
 #include <stdint.h>
 
 /* The number of this interface, raised by each request that changes or adds a call. */
-#define CP1610_INTERFACE 3
+#define CP1610_INTERFACE 4
 
 #ifdef __cplusplus
 extern "C" {
@@ -55,8 +56,8 @@ enum cp1610_kind { CP1610_DONE = 1, CP1610_GRANTED = 3, CP1610_INTERRUPTED = 4, 
 enum cp1610_wait_kind { CP1610_WAITS = 1, CP1610_OVER = 2, CP1610_MEETS_HALT = 3, CP1610_MEETS_UNSPECIFIED = 4 };
 
 /* The refusals: document 01's numbers with those that document 02 adds, and 255, which is this interface's own and none of theirs: a
- * `state`, `out` or `words` that is shorter than the call needs, or a `map` that is none, tested before all else. `text`, `room`, `bin` and
- * `cfg` never give it. A refused call alters nothing. */
+ * `state`, `out` or `words` that is shorter than the call needs, or a `map` that is none, tested before all else. `text`, `room`, `bin`,
+ * `cfg`, `entries`, `clear` and `set` never give it. A refused call alters nothing. */
 enum cp1610_refusal {
     CP1610_MEMORY_TOO_LONG = 1,
     CP1610_IS_HALTED = 2,
@@ -74,6 +75,8 @@ enum cp1610_refusal {
     CP1610_BAD_MAP = 14,
     CP1610_MALFORMED_MAPPING = 15,
     CP1610_MISSING_FILE_WORDS = 16,
+    CP1610_TOO_MANY_ENTRIES = 17,
+    CP1610_WRONG_SET_LENGTH = 18,
     CP1610_SHORT_BUFFER = 255,
     CP1610_NO_MAP = CP1610_SHORT_BUFFER
 };
@@ -99,6 +102,22 @@ enum cp1610_line { CP1610_LINE_WORDS = 3, CP1610_TEXT_ROOM = 16 };
 /* What the writing of a pair reports, both in bytes, and the room that its text needs, which is its length too, whatever the region. */
 enum cp1610_pair_report { CP1610_BIN_LENGTH = 0, CP1610_CFG_LENGTH = 1, CP1610_PAIR_WORDS = 2 };
 enum cp1610_pair { CP1610_CFG_ROOM = 32 };
+
+/* A set of reached addresses is two buffers: the addresses that are reached with D clear, and those that are reached with D set. Address a is
+ * bit a modulo 64 of word a / 64. Each buffer has just CP1610_SET_WORDS words; a shorter and a longer one are refused by 18. */
+enum cp1610_set { CP1610_SET_WORDS = 1024, CP1610_MOST_ENTRIES = 16 };
+
+/* Whether a buffer of a set has an address. */
+static inline int cp1610_has(const uint64_t *buffer, uint16_t address) { return (int)(buffer[address / 64] >> address % 64 & 1); }
+
+/* What the building of a set reports. Where no path ends by a row that writes R7, the numbers of those are 0. */
+enum cp1610_reach_report {
+    CP1610_ADDRESSES = 0,
+    CP1610_R7_WRITERS = 1,
+    CP1610_HAS_R7_WRITER = 2,
+    CP1610_LOWEST_R7_WRITER = 3,
+    CP1610_REACH_WORDS = 4
+};
 
 /* An answer is a refusal below 2^32; else the high half is the kind and the low half the value. */
 static inline int cp1610_is_refused(uint64_t answer) { return answer >> 32 == 0; }
@@ -171,6 +190,26 @@ uint64_t cp1610_load_pair(uint16_t *mem, size_t mem_length, const uint8_t *bin, 
  * 13 for a room that is too small, of which the other one stays too. */
 uint64_t cp1610_write_pair(const uint16_t *mem, size_t mem_length, uint16_t first, uint16_t last, uint8_t *bin, size_t bin_length,
     uint8_t *cfg, size_t cfg_length, uint32_t *out, size_t out_length);
+
+/* Builds the set of reached addresses: those that a path from an entry leads to, each with the D that it is reached with, over memory as
+ * it is. The entries are reached with D clear; nothing else is an entry by itself, $1004 neither. A path goes on at the next instruction;
+ * behind a branch both ways, but B only to its target and NOPP only onward; behind a jump at its target, and at the return address if it
+ * leaves one. HLT, an unspecified form and any other row that writes its result to R7 are reached and end a path. Kind 1; `clear` and `set`
+ * get the addresses, whatever they held; `out` gets how many there are, each counted once, at how many of them a row writes R7 and ends a
+ * path, whether at any, and the lowest of those. The call takes some 128 KiB of the calling thread's stack.
+ * Refused by 1 for a memory above 65,536 words, else by 14 for a bad map, else by 17 for more than 16 entries, equal ones counted, else by
+ * 18 for a `clear` or `set` that has not just 1,024 words. */
+uint64_t cp1610_reach(const uint16_t *mem, size_t mem_length, const uint16_t *map, size_t map_length, const uint16_t *entries,
+    size_t entries_length, uint64_t *clear, size_t clear_length, uint64_t *set, size_t set_length, uint32_t *out, size_t out_length);
+
+/* The wait meter for every address from first to last that `clear` has: the reached ones, where the set was built, but any words are
+ * taken. Of `set` only the length is looked at; it may be the same buffer. Kind 1; `out` gets what cp1610_region puts there, of these starts
+ * alone.
+ * Refused by 1 for a memory above 65,536 words, else by 14 for a bad map, else by 7 for a first above last, else by 8 for a limit
+ * above 4,096, else by 18 for a `clear` or `set` that has not just 1,024 words. */
+uint64_t cp1610_region_reached(const uint16_t *mem, size_t mem_length, const uint16_t *map, size_t map_length, uint16_t first,
+    uint16_t last, uint16_t limit, const uint64_t *clear, size_t clear_length, const uint64_t *set, size_t set_length, uint32_t *out,
+    size_t out_length);
 
 #ifdef __cplusplus
 }

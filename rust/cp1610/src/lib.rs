@@ -44,7 +44,9 @@ mod state;
 pub use answers::{Assembled, Cause, Event, Listed, Longest, PairLengths, Reached, Region, Run, Step, Wait};
 pub use board::{Board, Kind, Range};
 #[cfg(feature = "library")]
-pub use library::{Machine, assemble, calls, list, load, load_pair, region, wait, write, write_pair};
+pub use library::{
+    Machine, assemble, calls, list, load, load_pair, reach, region, region_reached, wait, write, write_pair,
+};
 pub use lines::Lines;
 pub use reached::ReachedSet;
 pub use refusal::Refusal;

@@ -2,7 +2,8 @@
 
 use cp1610::calls::{self, NO_MAP, SHORT_BUFFER};
 use cp1610::{
-    Board, CFG_ROOM, Cause, Event, Kind, Lines, Machine, Mark, PairLengths, Range, Refusal, Register, STATE_WORDS,
+    Board, CFG_ROOM, Cause, Event, Kind, Lines, Longest, MOST_ENTRIES, Machine, Mark, PairLengths, Range, Reached,
+    ReachedSet, Refusal, Region, Register, SET_WORDS, STATE_WORDS,
 };
 
 #[test]
@@ -83,7 +84,7 @@ fn a_board_has_the_ranges_that_it_was_made_from() {
 /// Also where the bad range never decides.
 #[test]
 fn a_bad_board_is_refused_where_it_is_lent() {
-    let (mut memory, mut text) = ([0], [0; 16]);
+    let (mut memory, mut text, mut set) = ([0], [0; 16], ReachedSet::new());
     for ranges in [vec![Range::ALL_RAM; 17], vec![Range::ALL_RAM, Range::rom(1, 0)]] {
         let board = Board::new(&ranges);
         let mut machine = Machine::reset();
@@ -92,6 +93,8 @@ fn a_bad_board_is_refused_where_it_is_lent() {
         assert_eq!(cp1610::wait(&memory, &board, 0, 0), Err(Refusal::BadMap));
         assert_eq!(cp1610::region(&memory, &board, 0, 0, 0), Err(Refusal::BadMap));
         assert_eq!(cp1610::list(&memory, &board, 0, false, &mut text), Err(Refusal::BadMap));
+        assert_eq!(cp1610::reach(&memory, &board, &[0], &mut set), Err(Refusal::BadMap));
+        assert_eq!(cp1610::region_reached(&memory, &board, 0, 0, 0, &set), Err(Refusal::BadMap));
     }
     let most = Board::new(&[Range::ALL_RAM; cp1610::MOST_RANGES]);
     assert!(cp1610::wait(&memory, &most, 0, 0).is_ok());
@@ -132,6 +135,49 @@ fn a_pair_is_written_into_two_rooms() {
     assert_eq!(&cfg, b"[mapping]\n$0000 - $0001 = $0001\n\x09");
 }
 
+/// A set shows its addresses by D, and is lent to the meter of its members.
+#[test]
+fn a_set_has_the_addresses_of_either_d() {
+    let memory = [0x001, 0x2B8, 0x048, 0x04C, 0x220, 0x0004]; // SDBD; MVII #$4C48,R0; B -$0004, to $0001
+    let (board, mut set) = (Board::all_ram(), ReachedSet::from_words(&[!0; SET_WORDS], &[!0; SET_WORDS]));
+    let reached = cp1610::reach(&memory, &board, &[0], &mut set);
+    assert_eq!(reached, Ok(Reached { addresses: 4, r7_writers: 0, lowest_r7_writer: None }));
+    assert!(set.addresses(false).eq([0, 1, 3, 4]) && set.addresses(true).eq([1]));
+    assert!(set.contains(1, false) && set.contains(1, true) && !set.contains(0, true) && !set.contains(2, false));
+    assert_eq!((set.words(false)[0], set.words(true)[0]), (0b11011, 0b00010));
+    let longest = |cycles, start| Ok(Region { longest: Some(Longest { cycles, start }), over: None });
+    assert_eq!(cp1610::region(&memory, &board, 0, 5, 0), longest(23, 2)); // MVII's first operand word reads as SLL R0
+    assert_eq!(cp1610::region_reached(&memory, &board, 0, 5, 0, &set), longest(17, 3));
+    assert_eq!(cp1610::region_reached(&memory, &board, 5, 5, 0, &set), Ok(Region { longest: None, over: None }));
+}
+
+/// Also where entries are equal; a refused call leaves the set.
+#[test]
+fn entries_and_sets_are_refused_where_they_are_lent() {
+    let (memory, board) = ([0x000], Board::all_ram());
+    let mut set = ReachedSet::from_words(&[!0; SET_WORDS], &[7; SET_WORDS]);
+    let lent = set.clone();
+    assert_eq!(cp1610::reach(&memory, &board, &[0; MOST_ENTRIES + 1], &mut set), Err(Refusal::TooManyEntries));
+    assert_eq!(set, lent);
+    assert!(cp1610::reach(&memory, &board, &[0; MOST_ENTRIES], &mut set).is_ok());
+    for (clear, with_d) in [(SET_WORDS - 1, SET_WORDS), (SET_WORDS, SET_WORDS + 1), (0, 0)] {
+        let mut set = ReachedSet::from_words(&vec![7; clear], &vec![7; with_d]);
+        let lent = set.clone();
+        assert_eq!(cp1610::reach(&memory, &board, &[], &mut set), Err(Refusal::WrongSetLength));
+        assert_eq!(cp1610::region_reached(&memory, &board, 0, 0, 0, &set), Err(Refusal::WrongSetLength));
+        assert_eq!(set, lent);
+    }
+}
+
+/// A set of words past the last address is no set, and shows nothing of them; so does one that lacks words.
+#[test]
+fn a_set_of_other_words_can_be_looked_at() {
+    let long = ReachedSet::from_words(&[1 << 63; SET_WORDS + 1], &[]);
+    assert_eq!((long.addresses(false).count(), long.addresses(false).last()), (SET_WORDS, Some(0xFFFF)));
+    assert!(long.contains(0xFFFF, false) && !long.contains(0, true) && long.addresses(true).eq([]));
+    assert_eq!(ReachedSet::default().addresses(false).count(), 0);
+}
+
 const ALL_RAM: &[u16] = &[0, 0xFFFF, 1];
 
 /// Short buffers are refused before all else, here before a memory that is too long.
@@ -147,6 +193,8 @@ fn short_buffers_are_refused_by_255() {
     assert_eq!(calls::list(&long, ALL_RAM, 0, 0, &mut [], &mut out[..2]), SHORT_BUFFER);
     assert_eq!(calls::assemble(b"no line", 0, &mut state[..2]), SHORT_BUFFER);
     assert_eq!(calls::write_pair(&long, 1, 0, &mut [], &mut [], &mut out[..1]), SHORT_BUFFER);
+    assert_eq!(calls::reach(&long, ALL_RAM, &[0; 17], &mut [], &mut [], &mut out[..3]), SHORT_BUFFER);
+    assert_eq!(calls::region_reached(&long, ALL_RAM, 1, 0, 0, &[], &[], &mut out[..4]), SHORT_BUFFER);
     assert_eq!((state, out), ([9; STATE_WORDS], [9; 5]));
 }
 
@@ -161,6 +209,8 @@ fn no_map_is_refused_by_255() {
         assert_eq!(calls::wait(&long, map, 0, 0xFFFF), NO_MAP);
         assert_eq!(calls::region(&long, map, 1, 0, 0, &mut out), NO_MAP);
         assert_eq!(calls::list(&long, map, 0, 0, &mut [], &mut out), NO_MAP);
+        assert_eq!(calls::reach(&long, map, &[0; 17], &mut [], &mut [], &mut out), NO_MAP);
+        assert_eq!(calls::region_reached(&long, map, 1, 0, 0, &[], &[], &mut out), NO_MAP);
     }
     let mut map = ALL_RAM.repeat(17);
     map[16 * 3 + 2] = 3;

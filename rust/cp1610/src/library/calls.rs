@@ -94,6 +94,35 @@ unsafe extern "C" {
         out: *mut u32,
         out_length: usize,
     ) -> u64;
+    fn cp1610_reach(
+        mem: *const u16,
+        mem_length: usize,
+        map: *const u16,
+        map_length: usize,
+        entries: *const u16,
+        entries_length: usize,
+        clear: *mut u64,
+        clear_length: usize,
+        set: *mut u64,
+        set_length: usize,
+        out: *mut u32,
+        out_length: usize,
+    ) -> u64;
+    fn cp1610_region_reached(
+        mem: *const u16,
+        mem_length: usize,
+        map: *const u16,
+        map_length: usize,
+        first: u16,
+        last: u16,
+        limit: u16,
+        clear: *const u64,
+        clear_length: usize,
+        set: *const u64,
+        set_length: usize,
+        out: *mut u32,
+        out_length: usize,
+    ) -> u64;
 }
 
 // SAFETY, for every call below: the library's functions are total as long as each pointer is valid for its length and no buffer
@@ -223,6 +252,61 @@ pub fn write_pair(memory: &[u16], first: u16, last: u16, bin: &mut [u8], cfg: &m
             bin.len(),
             cfg.as_mut_ptr(),
             cfg.len(),
+            out.as_mut_ptr(),
+            out.len(),
+        )
+    }
+}
+
+/// `cp1610_reach`.
+#[inline]
+pub fn reach(memory: &[u16], map: &[u16], entries: &[u16], clear: &mut [u64], set: &mut [u64], out: &mut [u32]) -> u64 {
+    // SAFETY: as above.
+    unsafe {
+        cp1610_reach(
+            memory.as_ptr(),
+            memory.len(),
+            map.as_ptr(),
+            map.len(),
+            entries.as_ptr(),
+            entries.len(),
+            clear.as_mut_ptr(),
+            clear.len(),
+            set.as_mut_ptr(),
+            set.len(),
+            out.as_mut_ptr(),
+            out.len(),
+        )
+    }
+}
+
+/// `cp1610_region_reached`.
+#[inline]
+#[expect(clippy::too_many_arguments, reason = "they are the C function's")]
+pub fn region_reached(
+    memory: &[u16],
+    map: &[u16],
+    first: u16,
+    last: u16,
+    limit: u16,
+    clear: &[u64],
+    set: &[u64],
+    out: &mut [u32],
+) -> u64 {
+    // SAFETY: as above.
+    unsafe {
+        cp1610_region_reached(
+            memory.as_ptr(),
+            memory.len(),
+            map.as_ptr(),
+            map.len(),
+            first,
+            last,
+            limit,
+            clear.as_ptr(),
+            clear.len(),
+            set.as_ptr(),
+            set.len(),
             out.as_mut_ptr(),
             out.len(),
         )
