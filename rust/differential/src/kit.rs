@@ -1,6 +1,8 @@
 //! A kit as a type, for tests and measurements that are run with either of the two.
 
-use cp1610::{Assembled, Lines, Listed, PairLengths, Range, Refusal, Region, Run, StateWords, Step, Wait};
+use cp1610::{
+    Assembled, Lines, Listed, PairLengths, Range, Reached, ReachedSet, Refusal, Region, Run, StateWords, Step, Wait,
+};
 
 /// The calls of a board kit. The refusals are document 01's, as the crate `cp1610` says at each of its functions.
 pub trait Kit {
@@ -47,6 +49,19 @@ pub trait Kit {
 
     /// The longest wait of a region, and its lowest address that is over the limit.
     fn region(memory: &[u16], board: &Self::Board, first: u16, last: u16, limit: u16) -> Result<Region, Refusal>;
+
+    /// Where paths from the entries lead, put into a set.
+    fn reach(memory: &[u16], board: &Self::Board, entries: &[u16], set: &mut ReachedSet) -> Result<Reached, Refusal>;
+
+    /// What a region comes to from those of its addresses alone that the set has with D clear.
+    fn region_reached(
+        memory: &[u16],
+        board: &Self::Board,
+        first: u16,
+        last: u16,
+        limit: u16,
+        set: &ReachedSet,
+    ) -> Result<Region, Refusal>;
 
     /// The line of an instruction.
     fn list(memory: &[u16], board: &Self::Board, address: u16, d: bool, text: &mut [u8]) -> Result<Listed, Refusal>;
@@ -137,6 +152,28 @@ macro_rules! kit_of_crate {
                 limit: u16,
             ) -> Result<Region, Refusal> {
                 $calls::region(memory, board, first, last, limit)
+            }
+
+            #[inline]
+            fn reach(
+                memory: &[u16],
+                board: &Self::Board,
+                entries: &[u16],
+                set: &mut ReachedSet,
+            ) -> Result<Reached, Refusal> {
+                $calls::reach(memory, board, entries, set)
+            }
+
+            #[inline]
+            fn region_reached(
+                memory: &[u16],
+                board: &Self::Board,
+                first: u16,
+                last: u16,
+                limit: u16,
+                set: &ReachedSet,
+            ) -> Result<Region, Refusal> {
+                $calls::region_reached(memory, board, first, last, limit, set)
             }
 
             #[inline]

@@ -3,7 +3,10 @@
 //! as a type, for what is run with both.
 
 pub mod cases;
+mod code;
 mod damage;
+#[cfg(test)]
+mod fixpoint;
 mod image_calls;
 mod kit;
 mod listing_calls;
@@ -12,6 +15,7 @@ mod map;
 mod meter_calls;
 mod pair_calls;
 mod random;
+mod reach_calls;
 mod reference;
 pub mod rows;
 mod scene;
@@ -30,7 +34,7 @@ const CALLS_PER_SCENE: u64 = 40;
 type Call = fn(&mut Random, &mut Scene, &mut Tally);
 
 /// The calls, each as many times as it weighs.
-const CALLS: [(Call, u64); 11] = [
+const CALLS: [(Call, u64); 13] = [
     (machine_calls::reset, 1),
     (machine_calls::step, 40),
     (machine_calls::run, 12),
@@ -42,6 +46,8 @@ const CALLS: [(Call, u64); 11] = [
     (image_calls::write, 5),
     (pair_calls::load, 10),
     (pair_calls::write, 5),
+    (reach_calls::reach, 5),
+    (reach_calls::region, 5),
 ];
 
 /// Makes so many random calls of both kits.

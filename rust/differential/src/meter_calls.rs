@@ -9,7 +9,8 @@ use crate::twin::Twin;
 use cp1610::{HIGHEST_LIMIT, Wait, calls};
 use std::ops::RangeInclusive;
 
-const REGION_WORDS: usize = 5;
+/// What is reported of a region.
+pub(crate) const REGION_WORDS: usize = 5;
 
 /// A region is mostly this long at the most; the whole address range is long to walk.
 const SHORT_REGION: u64 = 200;
@@ -56,14 +57,14 @@ pub(crate) fn wait(random: &mut Random, scene: &mut Scene, tally: &mut Tally) {
     }
 }
 
-fn any_region(random: &mut Random, scene: &Scene, map: &Map) -> (u16, u16, u16) {
+pub(crate) fn any_region(random: &mut Random, scene: &Scene, map: &Map) -> (u16, u16, u16) {
     let first = scene.address(random);
     let limit = any_limit(random, scene.memory.items(), map, first);
     match random.below(64) {
         0 => (0, u16::MAX, limit),
         1 => (first, first.saturating_sub(1), limit),
         2..16 => (first, first.wrapping_add(random.below(3) as u16), limit),
-        _ => (first, first.wrapping_add(random.below(SHORT_REGION) as u16), limit),
+        _ => (first, first.saturating_add(random.below(SHORT_REGION) as u16), limit),
     }
 }
 
@@ -78,10 +79,15 @@ pub(crate) fn region(random: &mut Random, scene: &mut Scene, tally: &mut Tally) 
     out.assert_equal(&call, "out");
     scene.memory.assert_equal(&call, "memory");
     map.assert_equal(&call);
-    tally.count("region", ours, || match (out.items()[0] != 0, out.items()[3] != 0) {
+    tally.count("region", ours, || region_kind(out.items()));
+}
+
+/// What a region's report names.
+pub(crate) fn region_kind(out: &[u32]) -> &'static str {
+    match (out[0] != 0, out[3] != 0) {
         (true, false) => "wait",
         (false, true) => "over",
         (true, true) => "wait and over",
         (false, false) => "neither",
-    });
+    }
 }

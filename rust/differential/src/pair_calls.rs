@@ -220,7 +220,7 @@ fn count_rare(pair: &Pair, text: &[u8], length: usize, answer: u64, tally: &mut 
     let is_refused_by = |refusal: Refusal| answer == refusal.number().into();
     let is_missing = |line: &Line| 2 * line.words().end > pair.bin.len();
     let overlaps = |n: usize| lines[..n].iter().any(|line| do_overlap(line.targets(), lines[n].targets()));
-    for (occasion, is_met) in [
+    tally.count_met([
         (Occasion::ManyLinesLoaded, is_loaded && MANY_LINES.contains(&(lines.len() as u32))),
         (Occasion::EmptyLineLoaded, is_loaded && text.windows(2).any(|bytes| bytes == b"\n\n")),
         (Occasion::TargetsOverlap, is_loaded && (0..lines.len()).any(overlaps)),
@@ -232,11 +232,7 @@ fn count_rare(pair: &Pair, text: &[u8], length: usize, answer: u64, tally: &mut 
             Occasion::MissingFirst,
             is_refused_by(Refusal::MissingFileWords) && lines.iter().any(|line| line.targets().end > length),
         ),
-    ] {
-        if is_met {
-            tally.count_occasion(occasion);
-        }
-    }
+    ]);
 }
 
 fn do_overlap(a: Range<usize>, b: Range<usize>) -> bool {

@@ -2,7 +2,7 @@
 //! of a map a call takes the board that the map stands for, or none where it is no map.
 
 use cp1610::calls::{NO_MAP, SHORT_BUFFER};
-use cp1610::{LINE_WORDS, Lines, Refusal, STATE_WORDS, StateWords, Wait};
+use cp1610::{LINE_WORDS, Lines, ReachedSet, Refusal, Region, STATE_WORDS, StateWords, Wait};
 use handwritten::{Board, Machine};
 
 const DONE: u32 = 1;
@@ -78,20 +78,60 @@ pub fn region(memory: &[u16], board: Option<&Board>, first: u16, last: u16, limi
     let (Some(board), Some(out)) = (board, out.first_chunk_mut()) else {
         return SHORT_BUFFER;
     };
-    match handwritten::region(memory, board, first, last, limit) {
-        Ok(region) => {
-            let (cycles, start) = region.longest.map_or((0, 0), |longest| (longest.cycles, longest.start));
-            *out = [
-                region.longest.is_some().into(),
-                cycles.into(),
-                start.into(),
-                region.over.is_some().into(),
-                region.over.unwrap_or(0).into(),
-            ];
-            success(DONE, 0)
-        }
-        Err(refusal) => refused(refusal),
-    }
+    reported(handwritten::region(memory, board, first, last, limit), out)
+}
+
+/// Puts what a region comes to into `out`, unless it was refused.
+fn reported(answer: Result<Region, Refusal>, out: &mut [u32; 5]) -> u64 {
+    answer.map_or_else(refused, |region| {
+        let (cycles, start) = region.longest.map_or((0, 0), |longest| (longest.cycles, longest.start));
+        *out = [
+            region.longest.is_some().into(),
+            cycles.into(),
+            start.into(),
+            region.over.is_some().into(),
+            region.over.unwrap_or(0).into(),
+        ];
+        success(DONE, 0)
+    })
+}
+
+pub fn region_reached(
+    memory: &[u16],
+    board: Option<&Board>,
+    first: u16,
+    last: u16,
+    limit: u16,
+    set: &ReachedSet,
+    out: &mut [u32],
+) -> u64 {
+    let (Some(board), Some(out)) = (board, out.first_chunk_mut()) else {
+        return SHORT_BUFFER;
+    };
+    reported(handwritten::region_reached(memory, board, first, last, limit, set), out)
+}
+
+/// What the kit leaves in the set is put back also where it refuses, so that it is seen whether it altered something.
+pub fn reach(
+    memory: &[u16],
+    board: Option<&Board>,
+    entries: &[u16],
+    clear: &mut [u64],
+    set: &mut [u64],
+    out: &mut [u32],
+) -> u64 {
+    let (Some(board), Some(out)) = (board, out.first_chunk_mut()) else {
+        return SHORT_BUFFER;
+    };
+    let mut reached_set = ReachedSet::from_words(clear, set);
+    let answer = handwritten::reach(memory, board, entries, &mut reached_set);
+    clear.copy_from_slice(reached_set.words(false));
+    set.copy_from_slice(reached_set.words(true));
+    answer.map_or_else(refused, |reached| {
+        let lowest = reached.lowest_r7_writer;
+        *out = [reached.addresses, reached.r7_writers, lowest.is_some().into(), lowest.unwrap_or(0).into()];
+        success(DONE, 0)
+    })
 }
 
 pub fn list(memory: &[u16], board: Option<&Board>, address: u16, d: u8, text: &mut [u8], out: &mut [u32]) -> u64 {

@@ -1,5 +1,6 @@
 //! A memory, a map and a machine that a number of calls are made on.
 
+use crate::code::any_code;
 use crate::map::{Map, Part};
 use crate::random::Random;
 use crate::tally::Tally;
@@ -94,7 +95,8 @@ fn any_length(random: &mut Random) -> usize {
 fn any_words(random: &mut Random, length: usize) -> Vec<u16> {
     let only_opcodes = random.one_in(2);
     let mask = if only_opcodes { 0x3FF } else { 0xFFFF };
-    let mut words: Vec<u16> = (0..length).map(|_| random.word() & mask).collect();
+    let mut words: Vec<u16> =
+        if random.one_in(3) { any_code(random, length) } else { (0..length).map(|_| random.word() & mask).collect() };
     for _ in 0..random.size_below(1 + length.min(2_048) / 8) {
         let sown = any_rare(random);
         sow(random, &mut words, &sown);
@@ -151,7 +153,8 @@ pub fn is_far_branch(words: &[u16]) -> bool {
     matches!(words, [word, FAR, ..] if (0x200..0x240).contains(&(word & 0x3FF)))
 }
 
-fn any_address(random: &mut Random, length: usize) -> u16 {
+/// An address in a memory of this length or not far past it, now and then anywhere.
+pub fn any_address(random: &mut Random, length: usize) -> u16 {
     match random.below(8) {
         0 => random.word(),
         1 => (random.below(5) as u16).wrapping_sub(2),

@@ -15,7 +15,7 @@ struct Answers {
 }
 
 /// All that each call can answer. 255 is the C interface's own refusal, of a short buffer or of a map that is none.
-const ANSWERS: [Answers; 11] = [
+const ANSWERS: [Answers; 13] = [
     Answers { call: "reset", refusals: &[255], kinds: &["done"] },
     Answers { call: "step", refusals: &[255, 1, 14, 2, 3], kinds: &["grant", "interrupt", "instruction"] },
     Answers { call: "run", refusals: &[255, 1, 14, 4, 2], kinds: &["halted", "unspecified", "budget"] },
@@ -27,6 +27,12 @@ const ANSWERS: [Answers; 11] = [
     Answers { call: "write", refusals: &[1, 7, 11, 13], kinds: &["1 record", "records"] },
     Answers { call: "load_pair", refusals: &[1, 15, 16, 11], kinds: &["no lines", "1 line", "lines"] },
     Answers { call: "write_pair", refusals: &[255, 1, 7, 11, 13], kinds: &["written"] },
+    Answers { call: "reach", refusals: &[255, 1, 14, 17, 18], kinds: &["nothing", "no R7 writer", "R7 writers"] },
+    Answers {
+        call: "region_reached",
+        refusals: &[255, 1, 14, 7, 8, 18],
+        kinds: &["wait", "over", "wait and over", "neither"],
+    },
 ];
 
 /// What chance alone makes too seldom, and the draws are made to meet.
@@ -60,6 +66,30 @@ pub(crate) enum Occasion {
     MissingFirst,
     /// A pair of 65,536 words, written.
     WholeMemoryWritten,
+    /// A set of more than 10,000 addresses.
+    ManyReached,
+    /// One with an address that is reached with either D.
+    EitherD,
+    /// One with $FFFF and $0000.
+    WrapReached,
+    /// One whose lowest row that writes R7 is an empty word of memory.
+    EmptyR7Writer,
+    /// One from 16 entries.
+    MostEntries,
+    /// One from an entry that was given twice.
+    EntryAgain,
+    /// A buffer of a set that is a word short.
+    ShortSet,
+    /// One that is a word long.
+    LongSet,
+    /// Too many entries, and such a buffer.
+    EntriesFirst,
+    /// A limit too high, and such a buffer.
+    LimitFirst,
+    /// A region whose set was lent as one buffer for either D.
+    OneBuffer,
+    /// One of whose addresses another start is named, which is no member.
+    StartLeftOut,
     /// A branch by $8000, taken.
     FarBranchTaken,
     /// A branch by $8000, listed.
@@ -97,7 +127,7 @@ pub(crate) enum Occasion {
 }
 
 /// All of them, as they are printed.
-const OCCASIONS: [(Occasion, &str); 31] = [
+const OCCASIONS: [(Occasion, &str); 43] = [
     (Occasion::LongRun, "budgets of 5,000 to 999,997 spent"),
     (Occasion::LongWait, "limits of 64 to 4,095 with such a wait"),
     (Occasion::LongOver, "passed"),
@@ -112,6 +142,18 @@ const OCCASIONS: [(Occasion, &str); 31] = [
     (Occasion::MalformedFirst, "refused by 15 where 16 holds too"),
     (Occasion::MissingFirst, "by 16 where 11 does"),
     (Occasion::WholeMemoryWritten, "pairs of 65,536 words written"),
+    (Occasion::ManyReached, "sets of more than 10,000 addresses"),
+    (Occasion::EitherD, "with an address of either D"),
+    (Occasion::WrapReached, "with $FFFF and $0000"),
+    (Occasion::EmptyR7Writer, "with an empty word as the lowest R7 writer"),
+    (Occasion::MostEntries, "from 16 entries"),
+    (Occasion::EntryAgain, "from one given twice"),
+    (Occasion::ShortSet, "sets a word short"),
+    (Occasion::LongSet, "a word long"),
+    (Occasion::EntriesFirst, "refused by 17 where 18 holds too"),
+    (Occasion::LimitFirst, "by 8 where 18 does"),
+    (Occasion::OneBuffer, "regions with one buffer for either D"),
+    (Occasion::StartLeftOut, "that leave out a start"),
     (Occasion::FarBranchTaken, "branches by $8000 taken"),
     (Occasion::FarBranchListed, "listed"),
     (Occasion::FarBranchAssembled, "assembled"),
@@ -148,6 +190,7 @@ pub struct Tally {
     executed: [u64; OPCODES],
     listed: [[u64; OPCODES]; 2],
     assembled: [u64; OPCODES],
+    reached: [[u64; OPCODES]; 2],
 }
 
 impl Default for Tally {
@@ -159,6 +202,7 @@ impl Default for Tally {
             executed: [0; OPCODES],
             listed: [[0; OPCODES]; 2],
             assembled: [0; OPCODES],
+            reached: [[0; OPCODES]; 2],
         }
     }
 }
@@ -179,7 +223,7 @@ impl Tally {
         let ranges = map.ranges();
         let overlaps = |n: usize| ranges[..n].iter().any(|range| do_overlap(range, &ranges[n]));
         let has_word = |at: u16| ranges.iter().any(|range| (range.first, range.last) == (at, at));
-        for (occasion, is_met) in [
+        self.count_met([
             (Occasion::NoRange, map.words().is_empty()),
             (Occasion::MostRanges, ranges.len() == MOST_RANGES),
             (Occasion::MoreRanges, ranges.len() == MOST_RANGES + 1),
@@ -187,7 +231,12 @@ impl Tally {
             (Occasion::Overlap, (0..ranges.len()).any(overlaps)),
             (Occasion::LowestWord, has_word(0)),
             (Occasion::HighestWord, has_word(u16::MAX)),
-        ] {
+        ]);
+    }
+
+    /// Counts those occasions that are met.
+    pub(crate) fn count_met<const N: usize>(&mut self, occasions: [(Occasion, bool); N]) {
+        for (occasion, is_met) in occasions {
             if is_met {
                 self.count_occasion(occasion);
             }
@@ -208,6 +257,10 @@ impl Tally {
 
     pub(crate) fn count_assembled(&mut self, word: u16) {
         self.assembled[usize::from(word) % OPCODES] += 1;
+    }
+
+    pub(crate) fn count_reached(&mut self, word: u16, d: bool) {
+        self.reached[usize::from(d)][usize::from(word) % OPCODES] += 1;
     }
 
     fn met(&self, call: &'static str, answer: Answer) -> u64 {
@@ -239,6 +292,8 @@ impl Tally {
             assert_ne!(self.listed[0][opcode], 0, "opcode {opcode:03X} was never listed with D clear");
             assert_ne!(self.listed[1][opcode], 0, "opcode {opcode:03X} was never listed with D set");
             assert_ne!(self.assembled[opcode], 0, "opcode {opcode:03X} was never assembled");
+            assert_ne!(self.reached[0][opcode], 0, "opcode {opcode:03X} was never reached with D clear");
+            assert_ne!(self.reached[1][opcode], 0, "opcode {opcode:03X} was never reached with D set");
         }
     }
 }
@@ -275,6 +330,7 @@ impl fmt::Display for Tally {
         writeln!(f)?;
         write!(f, "each opcode executed at least {} times, ", least(&self.executed))?;
         write!(f, "listed {} and under D {}, ", least(&self.listed[0]), least(&self.listed[1]))?;
-        write!(f, "assembled {}", least(&self.assembled))
+        write!(f, "assembled {}, ", least(&self.assembled))?;
+        write!(f, "reached {} and under D {}", least(&self.reached[0]), least(&self.reached[1]))
     }
 }

@@ -35,6 +35,13 @@ impl Item for u32 {
     }
 }
 
+impl Item for u64 {
+    /// A draw has 48 bits, so the highest 32 take up the lowest, too.
+    fn of(bits: u64) -> u64 {
+        bits ^ bits << 32
+    }
+}
+
 /// A length at which a call takes a buffer, the least or more; now and then one at which it does not.
 pub fn any_length(random: &mut Random, least: usize) -> usize {
     if random.one_in(32) { random.size_below(least) } else { least + random.size_below(4) }
