@@ -7,16 +7,14 @@
  *     target/frame game.img 7       a file, for board 7 (2 where no board is given)
  *
  * The exit status is 0 unless a file can't be read or a call was refused. */
-#include <cp1610.h>
+#include "image_file.h"
 
+#include <cp1610.h>
 #include <stdio.h>
 #include <stdlib.h>
 #include <string.h>
 
 enum {
-    MEMORY_WORDS = 65536,
-    FILE_ROOM = 1 << 20,
-    USUAL_BOARD = 2,
     /* CPU cycles in a frame of an NTSC picture, as is customary for this console. The figure is this example's own: the core
      * knows nothing of frames, and takes any budget up to 1,000,000. */
     FRAME_CYCLES = 14934
@@ -45,38 +43,7 @@ static const uint8_t built_in_image[] = {
     'O', 'K', 0xBF, 0x52,               /* the end, and the sum of all numbers before it, modulo 65,536 */
 };
 
-/* The memory and the file are too large for a small stack. */
-static uint16_t memory[MEMORY_WORDS], loaded_memory[MEMORY_WORDS];
-static uint8_t file_room[FILE_ROOM];
-
-struct image {
-    const uint8_t *bytes;
-    size_t length;
-};
-
-static struct image read_image(const char *path) {
-    FILE *file = fopen(path, "rb");
-    if (!file) {
-        perror(path);
-        exit(1);
-    }
-    size_t length = fread(file_room, 1, FILE_ROOM, file);
-    if (ferror(file) || fgetc(file) != EOF) {
-        fprintf(stderr, "%s can't be read, or is longer than %d bytes\n", path, FILE_ROOM);
-        exit(1);
-    }
-    fclose(file);
-    return (struct image){file_room, length};
-}
-
-/* Every answer below 2^32 is a refusal, and then the call has altered nothing. */
-static uint64_t taken(const char *call, uint64_t answer) {
-    if (cp1610_is_refused(answer)) {
-        fprintf(stderr, "%s refused by %u\n", call, cp1610_value_of(answer));
-        exit(1);
-    }
-    return answer;
-}
+static uint16_t loaded_memory[MEMORY_WORDS];
 
 static void print_state(const uint16_t *state) {
     static const char *const marks[] = {"S", "Z", "O", "C", "I", "D", "halted", "ready", "level", "pending"};
