@@ -10,6 +10,7 @@ mod instructions;
 mod measured;
 mod pairs;
 mod programs;
+mod reaching;
 mod table;
 mod times;
 mod workloads;

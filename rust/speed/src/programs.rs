@@ -2,6 +2,9 @@
 
 use cp1610::{LONGEST_MEMORY, Mark, Range, STATE_WORDS, StateWords};
 
+/// The board that image files are for.
+pub const BOARD: u16 = 2;
+
 const START: u16 = 0x1000;
 const SUBROUTINE: u16 = 0x1800;
 
@@ -119,4 +122,10 @@ pub fn made_up_words() -> Vec<u16> {
         (x >> 16) as u16
     };
     (0..LONGEST_MEMORY).map(|_| next()).collect()
+}
+
+/// A whole memory of made-up opcodes. Seven out of eight that name R7 name R6 instead, so that most paths go on.
+pub fn made_up_code() -> Vec<u16> {
+    let opcode = |word| if word % 8 == 7 && word < 0xE000 { word - 1 } else { word } % 0x400;
+    made_up_words().into_iter().map(opcode).collect()
 }

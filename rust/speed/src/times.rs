@@ -17,7 +17,7 @@ struct Times {
 /// Prints the table. A round goes through all workloads and measures each with both kits, one right after the other; so a while
 /// in which the machine does something else meets both kits, and no workload in most of its rounds.
 pub fn print() -> Result<(), String> {
-    let mut times: [Times; WORKLOADS.len()] = Default::default();
+    let mut times: [Times; WORKLOADS.len()] = std::array::from_fn(|_| Times::default());
     for _ in 0..ROUNDS {
         for (workload, times) in WORKLOADS.iter().zip(&mut times) {
             measure(workload, times)?;

@@ -4,7 +4,8 @@
 
 use crate::measured::{Measured, digest, time_of};
 use crate::pairs;
-use crate::programs::{self, Program, SIX_RANGES, made_up_words, sixteen_ranges};
+use crate::programs::{self, BOARD, Program, SIX_RANGES, made_up_words, sixteen_ranges};
+use crate::reaching;
 use cp1610::{HIGHEST_BUDGET, HIGHEST_LIMIT, LONGEST_MEMORY, Lines, Range, TEXT_ROOM};
 use differential::{Handwritten, Kit, Proved};
 use std::hint::black_box;
@@ -29,7 +30,7 @@ macro_rules! workload {
     };
 }
 
-pub const WORKLOADS: [Workload; 22] = [
+pub const WORKLOADS: [Workload; 34] = [
     workload!("run-alu", "step", run_alu),
     workload!("run-copy", "step", run_copy),
     workload!("run-mixed", "step", run_mixed),
@@ -52,12 +53,25 @@ pub const WORKLOADS: [Workload; 22] = [
     workload!("write-pair-16", "word", pairs::write, 16),
     workload!("write-pair-1024", "word", pairs::write, 1_024),
     workload!("write-pair", "word", pairs::write, 65_536),
+    workload!("reach-code", "node", reaching::code, 65_536),
+    workload!("reach-code-16384", "node", reaching::code, 16_384),
+    workload!("reach-code-4096", "node", reaching::code, 4_096),
+    workload!("reach-code-1024", "node", reaching::code, 1_024),
+    workload!("reach-16-entries", "node", reaching::code_from_most),
+    workload!("reach-line", "node", reaching::line),
+    workload!("reach-backward", "node", reaching::backward),
+    workload!("reach-forks", "node", reaching::forks),
+    workload!("reach-game", "node", reaching::game),
+    workload!("reach-tables", "node", reaching::tables),
+    workload!("region-members", "start", reaching::members),
+    workload!("region-non-members", "address", reaching::non_members),
 ];
 
 const SHORT_RUN: u32 = 100;
 const SHORT_RUNS: u32 = HIGHEST_BUDGET / SHORT_RUN;
-const BOARD: u16 = 2;
-const ALL_RAM: &[Range] = &[Range::ALL_RAM];
+
+/// The ranges of the board where a workload says no other.
+pub const ALL_RAM: &[Range] = &[Range::ALL_RAM];
 
 /// Runs a program for so many cycles at a time, and so many times. The lines are hidden from the compiler.
 fn run<K: Kit>(mut program: Program, ranges: &[Range], cycles: u32, times: u32) -> Measured {
