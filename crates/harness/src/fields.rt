@@ -22,6 +22,8 @@
 //     words::put(memory, fields)    puts the words of all fields `0100=02E4,0005` into a memory
 //     words::are_inside(fields, size)       whether these words lie inside a memory of so many words
 //     words::list_length(value), words::list_word(value, index)     how many words a list of words has, and one of them
+//     words::put_list(memory, address, value)     puts the words of a list into a memory
+//     form::is_word(value)          whether a value, or a part of one, is a word
 //     map::board(fields, key)       the board whose map its value writes, or the all-RAM board
 //     answer::fit, answer::refuses  the form of an answer, and a refusal with its number
 //

@@ -23,7 +23,7 @@ use crate::text;
 const MOST_RANGES: usize = 17;
 
 // A word: four hexadecimal digits.
-pub(crate) fn is_word(value: &[u8]) -> bool
+pub fn is_word(value: &[u8]) -> bool
     ensures { λ r. ⌜ r ≡ isWord (now (value .entry)) ⌝ }
 {
     (value.len() == 4) & text::all_stand_in(value, b"0123456789ABCDEF")

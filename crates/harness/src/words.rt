@@ -64,7 +64,7 @@ fn put_at(memory: &mut [u16], at: usize, word: u16)
 }
 
 // Puts the words of a list into a memory from an address on.
-fn put_list(memory: &mut [u16], address: u16, list: &[u8])
+pub fn put_list(memory: &mut [u16], address: u16, list: &[u8])
     ensures { λ r. ⌜ now (memory .exit) ≡ withListAt address (now (list .entry)) (now (memory .entry)) ⌝ }
 {
     let count = list_length(list);
