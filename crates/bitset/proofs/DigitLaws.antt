@@ -2,7 +2,7 @@
 use Prim.Native.Nat.{ℕ, zero, suc, _+_, _-_, _*_, _/_, _%_, _^_, _<_, max}
 use mathlib.Core.Path.{_≡_, refl, sym, ap, _∙_}
 use mathlib.Core.Bool.{cond, _||_}
-use native.Mathlib.Nat.{mod-lt, pow-suc, zero-lt-suc, mul-div-cancel, div-eq-of-lt, one-mul, mul-mod-left}
+use native.Mathlib.Nat.{mod-lt, one-le-pow, pow-suc, zero-lt-suc, mul-div-cancel, div-eq-of-lt, one-mul, mul-mod-left}
 use native.Mathlib.Decide.{decLt}
 use native.Mathlib.Numerals.{add-one, one-add}
 use native.Mathlib.Omega.{arith}
@@ -78,3 +78,11 @@ same-digits (suc n) w v p q h =
     same-digits n (w / 2) (v / 2) (shr-lt n 1 (rw (← add-one n) at p)) (shr-lt n 1 (rw (← add-one n) at q)) (λ k l. sym (digit-suc w k) ∙ h (suc k) (omega arith) ∙ digit-suc v k) in
     let low : w % 2 ≡ v % 2 = sym (digit-zero w) ∙ h zero (omega arith) ∙ digit-zero v in
     omega arith
+
+-- a word of ones
+pub digit-full : (n k : ℕ) → k < n → digit (2 ^ n - 1) k ≡ 1
+digit-full zero k h = absurd (omega arith)
+digit-full (suc n) zero h = digit-zero (2 ^ suc n - 1) ∙ rw (pow-suc 2 n) (omega (arith, one-le-pow n 2 (zero-lt-suc 1)))
+digit-full (suc n) (suc k) h =
+    let e : (2 ^ suc n - 1) / 2 ≡ 2 ^ n - 1 = rw (pow-suc 2 n) (omega (arith, one-le-pow n 2 (zero-lt-suc 1))) in
+    digit-suc (2 ^ suc n - 1) k ∙ ap (λ (w : ℕ). digit w k) e ∙ digit-full n k (omega arith)

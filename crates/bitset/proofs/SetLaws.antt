@@ -1,5 +1,5 @@
 -- Members of a set after an address was put in.
-use Prim.Native.Nat.{ℕ, zero, suc, _+_, _*_, _/_, _%_, _^_, _<_}
+use Prim.Native.Nat.{ℕ, zero, suc, _+_, _-_, _*_, _/_, _%_, _^_, _<_}
 use mathlib.Core.Path.{_≡_, refl, sym, ap, _∙_}
 use mathlib.Core.Bool.{Bool, true, false, cond, true≢false}
 use mathlib.Core.List.{List, [], _∷_}
@@ -14,7 +14,7 @@ use lib.Pow.{pow-lt}
 use lib.Bits.{bitOr, or-lt}
 use Rattle.bitset.specs.Bits.{contains, inserted, SetBuffer}
 use Rattle.bitset.specs.Laws.{MemberLaws, SameMembers}
-use Rattle.bitset.proofs.DigitLaws.{digit, digit-lt, digit-or, digit-pow-same, digit-pow-other, or-known, bit-count, same-digits}
+use Rattle.bitset.proofs.DigitLaws.{digit, digit-lt, digit-or, digit-pow-same, digit-pow-other, or-known, bit-count, same-digits, digit-full}
 use borrow.Author.Tests.{eqb-true}
 
 -- a set with an address more is as long
@@ -77,6 +77,11 @@ empty-has-none n a = rw (empty-word n (a / 64), zero-div (2 ^ (a % 64)))
 pub empty-buffer : SetBuffer (replicate 1024 0)
 empty-buffer = record { long = length-replicate {A = ℕ} 1024 0; words-fit = λ i. rw (empty-word 1024 i) (lit< tt) }
 
+-- every address is in a set of ones
+pub full-has-all : (n a : ℕ) → a / 64 < n → contains (replicate n (2 ^ 64 - 1)) a ≡ true
+unfolding contains
+full-has-all n a h = rw (getD-replicate n (a / 64) (2 ^ 64 - 1) 0 h, digit-full 64 (a % 64) (omega arith))
+
 -- a member lies within the words
 pub member-within : (ws : List ℕ) (a : ℕ) → contains ws a ≡ true → a / 64 < length ws
 unfolding contains
@@ -132,4 +137,4 @@ same-members c d p q h =
     same-bit _ _ (digit-lt (getD c i 0) k) (digit-lt (getD d i 0) k) (rw (e, m) at (h (64 * i + k)))))
 
 pub member-laws : MemberLaws
-member-laws = record { same = inserted-same; other = inserted-other; known = inserted-known; none = empty-has-none }
+member-laws = record { same = inserted-same; other = inserted-other; known = inserted-known; none = empty-has-none; all = full-has-all }

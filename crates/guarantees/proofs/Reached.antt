@@ -1,10 +1,12 @@
 -- The second mode with the reached set: what it names of members it names of the addresses to which a path leads.
-use Prim.Native.Nat.{ℕ, suc}
+use Prim.Native.Nat.{ℕ, suc, _-_, _^_}
 use mathlib.Core.Path.{_≡_, refl, sym, ap, _∙_, subst}
 use mathlib.Core.Bool.{Bool, true, false, true≢false}
 use mathlib.Core.List.{List, [], _∷_, List·Memᴰ·head, List·Memᴰ·eq-of-singleton}
 use mathlib.Core.Logic.{⊎-elim}
+use native.Mathlib.Omega.{arith}
 use lib.Dec.{lit<}
+use lib.ListN.{length-replicate}
 use Rattle.refusal.specs.Report.{Report, refused, answered, UnlessRefused}
 use Rattle.word.specs.Word.{wrapAdd, wrapSub}
 use Rattle.memory.specs.Memory.{peekOf}
@@ -21,13 +23,13 @@ use Rattle.meter.specs.Laws.{NamedIs}
 use Rattle.meter.proofs.ScanLaws.{same-starts}
 use Rattle.meter.proofs.RegionLaws.{names-its-members, second-mode}
 use Rattle.bitset.specs.Bits.{contains, inserted}
-use Rattle.bitset.proofs.SetLaws.{inserted-buffer, inserted-same, inserted-only, empty-has-none, empty-buffer}
+use Rattle.bitset.proofs.SetLaws.{member-laws, inserted-buffer, inserted-same, inserted-only, empty-has-none, empty-buffer}
 use Rattle.reach.specs.declared.Node.{Node}
 use Rattle.reach.specs.Ways.{nodeAt, clearAt, branchWays, successors}
 use Rattle.reach.specs.Paths.{_∈_, here, Reached}
 use Rattle.reach.specs.Reach.{ReachedSet}
 use Rattle.reach.proofs.ExploreLaws.{path-keeps}
-use Rattle.guarantees.specs.Reached.{ReachedClear, NamesReached, MetersReachedStarts, ReachedStarts, branchAndData, onlyZero, noAddress, ReachedInstance}
+use Rattle.guarantees.specs.Reached.{ReachedClear, NamesReached, MetersReachedStarts, everyBit, AllBitsAsFirst, ReachedStarts, branchAndData, onlyZero, noAddress, ReachedInstance}
 
 meters-reached-starts : MetersReachedStarts
 meters-reached-starts b entries clear set first last limit k =
@@ -38,8 +40,12 @@ meters-reached-starts b entries clear set first last limit k =
     go (refused n) p q = tt
     go (answered n) p q = record { named = same-starts (λ a. contains clear a ≡ true) (ReachedClear b entries) (k .in-clear) (answerFrom b limit) first (suc last) n p; answers = q }
 
+all-bits-as-first : AllBitsAsFirst
+all-bits-as-first b first last limit set l h =
+    second-mode .as-first b first last limit everyBit set (length-replicate {A = ℕ} 1024 (2 ^ 64 - 1)) h (λ a p q. member-laws .all 1024 a (omega arith))
+
 pub reached-starts : ReachedStarts
-reached-starts = record { meters = meters-reached-starts; modes = second-mode }
+reached-starts = record { meters = meters-reached-starts; as-first = all-bits-as-first }
 
 -- the branch leads to itself
 leads : successors (readOf branchAndData) (clearAt 0) ≡ clearAt 0 ∷ []

@@ -1,15 +1,15 @@
 -- Document 02, [4]: the reached set and the region meter's second mode together. "The meter counts operand words as starts and frightens people": in the
 -- second mode a wait starts only where a path leads.
-use Prim.Native.Nat.{ℕ, suc}
+use Prim.Native.Nat.{ℕ, suc, _-_, _^_, _<_}
 use mathlib.Core.Path.{_≡_}
 use mathlib.Core.List.{List, [], _∷_}
-use lib.ListN.{replicate}
+use lib.ListN.{length, replicate}
 use Rattle.refusal.specs.Report.{answered, UnlessRefused}
 use Rattle.memory.specs.Bus.{Bus, busOf, readOf}
-use Rattle.bitset.specs.Bits.{inserted}
+use Rattle.bitset.specs.Bits.{setLength, inserted}
 use Rattle.meter.specs.Answer.{Named, longest, noOver}
 use Rattle.meter.specs.Meter.{answerFrom, waitOf, regionOf, regionReachedOf}
-use Rattle.meter.specs.Laws.{NamedIs, SecondMode}
+use Rattle.meter.specs.Laws.{NamedIs}
 use Rattle.reach.specs.Ways.{clearAt, successors}
 use Rattle.reach.specs.Paths.{Reached}
 use Rattle.reach.specs.Reach.{ReachedSet}
@@ -32,11 +32,20 @@ MetersReachedStarts =
     ReachedSet (successors (readOf b)) entries clear set →
     UnlessRefused (NamesReached b entries first last limit) (regionReachedOf b first last limit clear set)
 
--- both: and "every address a start" is the first mode of one scan, so that with every address of the region in `clear` the second answers as the first
--- (`SecondMode.as-first`)
+-- with every bit of `clear` set it answers as the first mode
+abbrev pub everyBit : List ℕ
+everyBit = replicate setLength (2 ^ 64 - 1)
+
+abbrev pub AllBitsAsFirst : Type 0
+AllBitsAsFirst =
+    (b : Bus) (first last limit : ℕ) (set : List ℕ) →
+    last < 65536 →
+    length set ≡ setLength →
+    regionReachedOf b first last limit everyBit set ≡ regionOf b first last limit
+
 pub record ReachedStarts : Type 0 where
   pub meters : MetersReachedStarts
-  pub modes : SecondMode
+  pub as-first : AllBitsAsFirst
 
 -- The premise is met, and the two modes differ: B $0000 at address 0, whose displacement reads as SDBD, and three words of data that read as MVO@ R0,R1,
 -- CLRC and NOP.
