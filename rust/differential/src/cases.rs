@@ -7,6 +7,7 @@ mod listing;
 mod meter;
 mod pair;
 mod processor;
+mod reach;
 #[cfg(test)]
 mod tests;
 
@@ -26,6 +27,8 @@ pub enum Program {
     Step,
     /// Waits and regions.
     Meter,
+    /// Reached sets, and regions of which their members are metered.
+    Reach,
     /// Lines, listed and assembled.
     Listing,
     /// Images, loaded and written.
@@ -59,6 +62,9 @@ fn run<K: Kit>(program: Program, case: &Case) -> Result<(), String> {
         (Program::Step, "run") => processor::run::<K>(&mut before, &mut after),
         (Program::Meter, "wait") => meter::wait::<K>(&mut before, &mut after),
         (Program::Meter, "region") => meter::region::<K>(&mut before, &mut after),
+        (Program::Reach, "reach") => reach::reach::<K>(&mut before, &mut after),
+        (Program::Reach, "region") => reach::region::<K>(&mut before, &mut after),
+        (Program::Reach, "both") => reach::both::<K>(&mut before, &mut after),
         (Program::Listing, "list") => listing::list::<K>(&mut before, &mut after),
         (Program::Listing, "assemble") => listing::assemble::<K>(&mut before, &mut after),
         (Program::Image, "load") => image::load::<K>(&mut before, &mut after),

@@ -8,13 +8,15 @@
 //! ```
 //!
 //! A text is always a row's last field, as it may have spaces; in a text of several lines `/` stands for a line feed and `^` for a carriage
-//! return. A board's map is a field too: `map=0000-00EF:ram8,5000-6FFF:rom`, the range that decides first at the front, or `map=none`.
+//! return. A board's map is a field too: `map=0000-00EF:ram8,5000-6FFF:rom`, the range that decides first at the front, or `map=none`. So is a
+//! set of addresses: `clear=0010,0012-0015`.
 //!
 //! What is left out has its default; what is not understood is an error. So each reader takes the fields that it knows from a row, and
 //! [`Fields::end`] finds what nobody took.
 
 use cp1610::{Kind, Range};
 use std::collections::BTreeMap;
+use std::ops::RangeInclusive;
 use std::str::FromStr;
 
 /// A case: three rows of a file.
@@ -209,6 +211,18 @@ pub fn list(value: &str) -> Option<Vec<u16>> {
     value.split(',').map(word).collect()
 }
 
+/// Addresses and spans of addresses with commas between them.
+pub fn spans(value: &str) -> Option<Vec<RangeInclusive<u16>>> {
+    value.split(',').map(span).collect()
+}
+
+/// `FIRST-LAST`, or one address.
+fn span(value: &str) -> Option<RangeInclusive<u16>> {
+    let (first, last) = value.split_once('-').unwrap_or((value, value));
+    let span = word(first)?..=word(last)?;
+    if span.is_empty() { None } else { Some(span) }
+}
+
 /// Ranges with commas between them, or `none`. Any ranges are taken, good or bad.
 pub fn map(value: &str) -> Option<Vec<Range>> {
     if value == "none" { Some(Vec::new()) } else { value.split(',').map(range).collect() }
@@ -262,7 +276,7 @@ pub fn bit(value: &str) -> Option<bool> {
 
 #[cfg(test)]
 mod tests {
-    use super::{Fields, bytes, cases, lines, map};
+    use super::{Fields, bytes, cases, lines, map, spans};
     use cp1610::Range;
 
     #[test]
@@ -289,6 +303,14 @@ mod tests {
         assert_eq!(map("none"), Some(vec![]));
         for value in ["", "0000-00EF", "0000:ram8", "0000-00EF:RAM8", "0-00EF:rom", "0000-00ef:rom", "0000-00EF:rom,"] {
             assert_eq!(map(value), None, "{value}");
+        }
+    }
+
+    #[test]
+    fn a_set_is_a_list_of_spans() {
+        assert_eq!(spans("0010,0012-0015,FFFF"), Some(vec![0x10..=0x10, 0x12..=0x15, 0xFFFF..=0xFFFF]));
+        for value in ["", "0010,", "10", "0010-", "0015-0012", "0010--0015", "0010-0012-0015", "001a"] {
+            assert_eq!(spans(value), None, "{value}");
         }
     }
 

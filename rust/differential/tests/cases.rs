@@ -26,6 +26,11 @@ fn waits_and_regions() {
 }
 
 #[test]
+fn reached_sets() {
+    check_both(Program::Reach, include_str!("../../../crates/test_reach/stdin"), &["both", "reach", "region"]);
+}
+
+#[test]
 fn lines() {
     check_both(Program::Listing, include_str!("../../../crates/test_listing/stdin"), &["assemble", "list"]);
 }

@@ -3,7 +3,7 @@
 use super::{board, ends, memory, same, wanted};
 use crate::kit::Kit;
 use crate::rows::{self, Fields};
-use cp1610::{Longest, Region, Wait};
+use cp1610::{Longest, Refusal, Region, Wait};
 
 pub(super) fn wait<K: Kit>(before: &mut Fields, after: &mut Fields) -> Result<(), String> {
     let (address, limit) = (before.word("address", 0)?, before.number("limit", 0)?);
@@ -23,13 +23,17 @@ pub(super) fn wait<K: Kit>(before: &mut Fields, after: &mut Fields) -> Result<()
 pub(super) fn region<K: Kit>(before: &mut Fields, after: &mut Fields) -> Result<(), String> {
     let ((first, last), limit) = (ends(before)?, before.number("limit", 0)?);
     let (memory, board) = (memory(before)?, board::<K>(before)?);
-    let wanted = wanted(after, |answer, after| {
+    same("answer", K::region(&memory, &board, first, last, limit), region_wanted(after)?)
+}
+
+/// What the meter has to answer for a region.
+pub(super) fn region_wanted(after: &mut Fields) -> Result<Result<Region, Refusal>, String> {
+    wanted(after, |answer, after| {
         if answer != "found" {
             return Ok(None);
         }
         Ok(Some(Region { longest: longest(after)?, over: after.read_as("over", rows::word)? }))
-    })?;
-    same("answer", K::region(&memory, &board, first, last, limit), wanted)
+    })
 }
 
 fn longest(after: &mut Fields) -> Result<Option<Longest>, String> {

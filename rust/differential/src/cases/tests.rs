@@ -10,7 +10,7 @@ struct Sample {
     wrong: &'static [(&'static str, &'static str)],
 }
 
-const SAMPLES: [Sample; 8] = [
+const SAMPLES: [Sample; 9] = [
     Sample {
         program: Program::Step,
         cases: "\
@@ -54,6 +54,42 @@ after answer=found
             ("answer=found", "answer=found over=0000"),
             ("answer=found", "answer=found longest=4"),
             ("answer=found", ""),
+        ],
+    },
+    Sample {
+        program: Program::Reach,
+        cases: "\
+reach SDBD, INCR R7 in buffers with old contents
+before fill=0000 0010=0001,000F entries=0010,0020 clear=0000-FFFF set=0030
+after answer=built addresses=3 writers=1 lowest=0011 clear=0010,0020 set=0011
+region a lower start that is no member
+before fill=0000 0008=0034,0006,0034 first=0008 last=000A limit=12 clear=0009-000A set=0008
+after answer=found longest=10 start=0009
+both an operand is no start
+before fill=0000 0010=02B8,0248,0034 first=0010 last=0012 entries=0010
+after answer=found longest=8 start=0010
+",
+        wrong: &[
+            ("entries=0010,0020", "entries=0010"),
+            ("addresses=3", "addresses=4"),
+            ("writers=1", "writers=2"),
+            ("lowest=0011", "lowest=0010"),
+            ("lowest=0011 ", ""),
+            ("clear=0010,0020 set=0011", "clear=0010,0020"),
+            ("clear=0010,0020 set=0011", "clear=0010,0020 set=0011,0012"),
+            ("clear=0010,0020", "clear=0010"),
+            ("clear=0010,0020", "clear=0010,0020,FFFF"),
+            ("clear=0010,0020", "clear=0010,0020,"),
+            ("addresses=3 writers=1 lowest=0011 clear=0010,0020 set=0011", "number=17"),
+            ("set=0030", "set=0030 clearwords=1023"),
+            ("set=0030", "set=0030 setwords=1025"),
+            ("clear=0009-000A", "clear=0009-000A clearwords=1025"),
+            ("clear=0009-000A", "clear=000A"),
+            ("limit=12", "limit=9"),
+            ("longest=10", "longest=10 over=0009"),
+            ("longest=8 start=0010", "longest=15 start=0011"),
+            ("last=0012 entries=0010", "last=0012 entries=0011"),
+            ("last=0012 entries=0010", "last=0012 clear=0010"),
         ],
     },
     Sample {
