@@ -26,10 +26,10 @@ const FORKS: [&str; 15] =
     ["BC", "BOV", "BPL", "BEQ", "BLT", "BLE", "BUSC", "BNC", "BNOV", "BMI", "BNEQ", "BGE", "BGT", "BESC", "BEXT"];
 
 /// An address, and the D that it is reached with.
-type Node = (u16, bool);
+pub(crate) type Node = (u16, bool);
 
 /// What comes behind an instruction.
-enum Ways {
+pub(crate) enum Ways {
     To(Vec<Node>),
     /// Nothing, or nothing that is known, as its result goes to R7.
     End {
@@ -38,7 +38,7 @@ enum Ways {
 }
 
 /// What the line of an instruction says of where a path goes behind it.
-fn ways((at, d): Node, line: &str, onward: Node) -> Ways {
+pub(crate) fn ways((at, d): Node, line: &str, onward: Node) -> Ways {
     let (name, operands) = line.split_once(' ').unwrap_or((line, ""));
     match name {
         "HLT" | "DECLE" => Ways::End { writes_r7: false },
@@ -68,22 +68,22 @@ fn branch_target(at: u16, operands: &str) -> u16 {
 }
 
 /// A memory and a board of a kit.
-struct Code<'a, K: Kit> {
-    memory: &'a [u16],
-    board: K::Board,
+pub(crate) struct Code<'a, K: Kit> {
+    pub(crate) memory: &'a [u16],
+    pub(crate) board: K::Board,
 }
 
 impl<'a, K: Kit> Code<'a, K> {
-    fn new(memory: &'a [u16], ranges: &[Range]) -> Code<'a, K> {
+    pub(crate) fn new(memory: &'a [u16], ranges: &[Range]) -> Code<'a, K> {
         Code { memory, board: K::board(ranges) }
     }
 
-    fn ways(&self, node: Node) -> Ways {
-        let (at, d) = node;
+    /// The line of an instruction, and the node directly behind it.
+    pub(crate) fn line(&self, (at, d): Node) -> (String, Node) {
         let mut text = [0; TEXT_ROOM];
         let listed = K::list(self.memory, &self.board, at, d, &mut text).expect("memory and board are good");
         let line = str::from_utf8(&text[..listed.length]).expect("a line is plain text");
-        ways(node, line, (at.wrapping_add(listed.words as u16), listed.next_d))
+        (line.into(), (at.wrapping_add(listed.words as u16), listed.next_d))
     }
 
     /// All that is reached, and at which addresses R7 is written.
@@ -92,7 +92,8 @@ impl<'a, K: Kit> Code<'a, K> {
         loop {
             let (mut next, mut writers) = (nodes.clone(), BTreeSet::new());
             for node in &nodes {
-                match self.ways(*node) {
+                let (line, onward) = self.line(*node);
+                match ways(*node, &line, onward) {
                     Ways::To(more) => next.extend(more),
                     Ways::End { writes_r7: true } => _ = writers.insert(node.0),
                     Ways::End { .. } => {}

@@ -19,6 +19,8 @@ mod reach_calls;
 mod reference;
 pub mod rows;
 mod scene;
+#[cfg(test)]
+mod stepping;
 mod tally;
 mod twin;
 
