@@ -1,4 +1,4 @@
--- Demand 3, all-RAM, and pairs. `Instances` depends on none of the others.
+-- Demand 3, all-RAM, pairs, and reached starts. `Instances` depends on none of the others.
 pub mod Instances
 pub mod GrantLaws
 pub mod StepLaws
@@ -7,3 +7,4 @@ pub mod Demand
 pub mod AllRam
 pub mod Pairs
 pub mod Reached
+pub mod StayLaws
