@@ -196,7 +196,7 @@ uint64_t cp1610_write_pair(const uint16_t *mem, size_t mem_length, uint16_t firs
  * behind a branch both ways, but B only to its target and NOPP only onward; behind a jump at its target, and at the return address if it
  * leaves one. HLT, an unspecified form and any other row that writes its result to R7 are reached and end a path. Kind 1; `clear` and `set`
  * get the addresses, whatever they held; `out` gets how many there are, each counted once, at how many of them a row writes R7 and ends a
- * path, whether at any, and the lowest of those. The call takes some 128 KiB of the calling thread's stack.
+ * path, whether at any, and the lowest of those. The call takes some 140 KiB of the calling thread's stack.
  * Refused by 1 for a memory above 65,536 words, else by 14 for a bad map, else by 17 for more than 16 entries, equal ones counted, else by
  * 18 for a `clear` or `set` that has not just 1,024 words. */
 uint64_t cp1610_reach(const uint16_t *mem, size_t mem_length, const uint16_t *map, size_t map_length, const uint16_t *entries,

@@ -9,7 +9,7 @@ use crate::{Board, Reached, ReachedSet, Refusal};
 /// The entries are reached with D clear; nothing else is an entry by itself. A path goes on at the next instruction; behind a branch both
 /// ways, but B only to its target and NOPP only onward; behind a jump at its target, and at the return address if it leaves one. HLT, an
 /// unspecified form and any other row that writes its result to R7 are reached and end a path. Memory is taken as it is. The call takes some
-/// 128 KiB of the calling thread's stack.
+/// 140 KiB of the calling thread's stack.
 ///
 /// ```
 /// use cp1610::{Board, Reached, ReachedSet};
