@@ -1,4 +1,4 @@
--- Document 02, [4]: the set of reached addresses. The call answers by `reachOf`, and leaves in the two lent buffers what `Leaves` says.
+-- Document 02, [4]: the set of reached addresses. The call answers by `reachOf`, and leaves in the two lent buffers what `LeavesSet` says.
 use Prim.Native.Nat.{ℕ}
 use mathlib.Core.Path.{_≡_}
 use mathlib.Core.Bool.{true, false, cond, _||_}
@@ -17,7 +17,7 @@ use Rattle.reach.specs.Paths.{Reached}
 use Rattle.reach.specs.Summary.{SetSummary, summaryOf}
 
 -- "The set is two lent buffers, reached with D clear and with D set .. An address is in a buffer exactly if such a path leads there with that D over
--- unchanged memory." `ReachedSetIsOne` of `Laws`: no two pairs of buffers meet this.
+-- unchanged memory." `ReachedSetIsOne` of `Laws`: one pair of buffers alone meets this.
 pub record ReachedSet (next : Node → List Node) (entries clear set : List ℕ) : Type 0 where
   pub clear-buffer : SetBuffer clear
   pub set-buffer : SetBuffer set
