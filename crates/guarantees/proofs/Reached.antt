@@ -1,7 +1,7 @@
 -- The second mode with the reached set: what it names of members it names of the addresses to which a path leads.
 use Prim.Native.Nat.{ℕ, suc, _-_, _^_}
 use mathlib.Core.Path.{_≡_, refl, sym, ap, _∙_, subst}
-use mathlib.Core.Bool.{Bool, true, false, true≢false}
+use mathlib.Core.Bool.{true, false, true≢false}
 use mathlib.Core.List.{List, [], _∷_, List·Memᴰ·head, List·Memᴰ·eq-of-singleton}
 use mathlib.Core.Logic.{⊎-elim}
 use native.Mathlib.Omega.{arith}
@@ -11,7 +11,7 @@ use Rattle.refusal.specs.Report.{Report, refused, answered, UnlessRefused}
 use Rattle.word.specs.Word.{wrapAdd, wrapSub}
 use Rattle.memory.specs.Memory.{peekOf}
 use Rattle.memory.specs.Map.{holds, cellAt, badMap}
-use Rattle.memory.specs.Bus.{Bus, readOf, admissionOf}
+use Rattle.memory.specs.Bus.{readOf, admissionOf}
 use Rattle.decode.specs.Fields.{branchTarget}
 use Rattle.decode.specs.Decode.{controlInstruction, statusInstruction, lowInstruction, instructionOf, isUnspecified, decodeAt}
 use Rattle.decode.specs.Rows.{interruptibleEntry, plainEntry, controlEntry, registerEntry, branchCycles, branchEntry, memoryWords, storeEntry}

@@ -1,5 +1,5 @@
 -- R7 after an instruction that does not write its result there: in line, or where its branch or jump goes. So a step goes on at a successor.
-use Prim.Native.Nat.{ℕ, zero, suc, _+_, _-_, _%_, _/_, _<_, _≤_}
+use Prim.Native.Nat.{ℕ, _-_, _%_, _/_}
 use mathlib.Core.Path.{_≡_, refl, sym, ap, ap₂, _∙_, subst}
 use mathlib.Core.Bool.{Bool, true, false, cond, not, _&&_, _||_, true≢false}
 use mathlib.Core.List.{List, [], _∷_, List·Memᴰ·head, List·Memᴰ·tail}
@@ -14,7 +14,7 @@ use Rattle.decode.specs.declared.Instr.{Instr}
 use Rattle.decode.specs.declared.Instr.the-variants.{Hlt, Control, Jump, Single, Gswd, Nop, Sin, Shift, Register, Branch, Store as StoreRow, Read}
 use Rattle.decode.specs.declared.Decoded.the-variants.{Known}
 use Rattle.decode.specs.declared.rows.Row.{Row}
-use Rattle.decode.specs.Fields.{Mode, direct, through, rising, stack, immediate, modes, modeOf, branchTarget, isAlways, isNopp, Return, noReturn, returnIn, returnOf, hasReturn, jumpTarget}
+use Rattle.decode.specs.Fields.{Mode, stack, modes, modeOf, branchTarget, isAlways, isNopp, Return, noReturn, returnIn, returnOf, jumpTarget}
 use Rattle.decode.specs.Decode.{instructionOf, writesR7, isUnspecified, decodeAt}
 use Rattle.decode.specs.Rows.{interruptibleEntry, plainEntry, haltEntry, controlEntry, jumpEntry, registerEntry, shiftEntry, operateEntry, branchCycles, branchEntry, storeEntry, readEntry, rowOf}
 use Rattle.decode.specs.Laws.{InRange}
@@ -22,12 +22,12 @@ use Rattle.decode.proofs.DecodeLaws.{decodes-in-range}
 use Rattle.decode.proofs.Tables.{of-table}
 use Rattle.cpu.specs.declared.Lines.{Lines}
 use Rattle.cpu.specs.Machine.{Flags, Machine, register, setRegister, result, seenBy}
-use Rattle.cpu.specs.Control.{saveIn, jump}
+use Rattle.cpu.specs.Control.{jump}
 use Rattle.cpu.specs.Single.{incr, decr, comr, negr, adcr, gswd, rswd, singleRows, single}
 use Rattle.cpu.specs.Operate.{movr, mvi, add, sub, cmp, and, xor, registerRows, registerRow, readRows, readRow}
 use Rattle.cpu.specs.Branch.{conditionHolds, isTaken, branch}
 use Rattle.cpu.specs.Modes.{Fetch, fetchOf}
-use Rattle.cpu.specs.Execute.{begun, readThrough}
+use Rattle.cpu.specs.Execute.{begun}
 use Rattle.cpu.specs.Step.{noted, planOf, executionWords, executedFrom, executed, admittedAction, actionOf, Outcome, stepOf}
 use Rattle.cpu.specs.Steps.{stepsFrom}
 use Rattle.cpu.proofs.ActionLaws.{step-executes}

@@ -10,12 +10,12 @@ use native.Mathlib.Omega.{arith}
 use lib.ListN.{length, getD, length-set}
 use lib.Seq.{getD-set-same, getD-set-other}
 use Rattle.bitset.specs.Bits.{contains, inserted, sizeOf}
-use Rattle.bitset.proofs.SetLaws.{inserted-length, inserted-same, inserted-kept, inserted-known, inserted-only}
+use Rattle.bitset.proofs.SetLaws.{inserted-length, inserted-kept, inserted-known, inserted-only}
 use Rattle.bitset.proofs.CountLaws.{size-most, size-new}
 use Rattle.reach.specs.declared.Node.{Node}
-use Rattle.reach.specs.Ways.{nodeAt, clearAt, successors, writesAt}
+use Rattle.reach.specs.Ways.{nodeAt, clearAt, writesAt}
 use Rattle.reach.specs.Paths.{_∈_, PathTo, here, onward}
-use Rattle.reach.specs.inner.Explore.{marked, clearWith, setWith, Pushes, Waiting, Expanded, Noted, Exploring, Idle}
+use Rattle.reach.specs.inner.Explore.{marked, clearWith, setWith, Pushes, Waiting, Expanded, Exploring, Idle}
 use Rattle.reach.proofs.MarkLaws.{mark-kept, mark-only, mark-self, mark-clear-buffer, mark-set-buffer, mark-clear-held}
 
 module _ {read : ℕ → ℕ} {Busy : Node → Type 0} {clear set writers stack : List ℕ} {depth : ℕ} where

@@ -22,7 +22,6 @@ use Rattle.reach.specs.declared.ReachAnswer.the-variants.{Refused, Built
 use Rattle.reach.specs.Ways.{nodeAt, successors}
 use Rattle.reach.specs.Paths.{Reached}
 use Rattle.reach.specs.Summary.{SetSummary, summaryOf}
-use Rattle.reach.specs.Answer.{reachReport}
 use Rattle.reach.specs.Reach.{ReachedSet, mostEntries, reachOf, Unmoved, LeavesSet, Reaches}
 use Rattle.reach.specs.Laws.{ReachedSetIsOne, SameOutcome, ReachIsOne, RefusesAlike, ReachedAddress, SummaryLaws, ReachAnswersApart}
 use Rattle.reach.specs.inner.Explore.{marked}

@@ -20,7 +20,7 @@ use Rattle.decode.proofs.DecodeLaws.{decodes-in-steps}
 use Rattle.reach.specs.declared.Node.{Node}
 use Rattle.reach.specs.declared.ways.Ways.{Ways}
 use Rattle.reach.specs.declared.ways.Ways.the-variants.{End, Writes}
-use Rattle.reach.specs.Ways.{instructionWays, decodedWays, successors, decodedWrites, writesAt}
+use Rattle.reach.specs.Ways.{instructionWays, successors, decodedWrites, writesAt}
 use Rattle.reach.specs.inner.Explore.{GoesTo, WaysFrom}
 use Rattle.reach.proofs.SummaryLaws.{or-true}
 use Rattle.reach.proofs.FollowLaws.{Turn}

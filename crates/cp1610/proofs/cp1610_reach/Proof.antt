@@ -1,6 +1,6 @@
 -- `cp1610_reach`: a short buffer and a map that is none are refused; else by what building the set answered.
 use mathlib.Core.Path.{sym, _∙_}
-use borrow.Author.Tests.{lt-ltb, le-ltb, not-true, not-false}
+use borrow.Author.Tests.{lt-ltb, le-ltb, not-false}
 use Rattle.cp1610.specs.ReachCall.{reachCall}
 use Rattle.cp1610.proofs.ReachLaws.{reach-short, reach-refuses, reach-builds}
 use borrow.Author.Needs.{needs}

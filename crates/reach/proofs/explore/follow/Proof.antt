@@ -1,6 +1,6 @@
 -- `follow`: a turn keeps `Following` and the range at hand. It ends where the node leads nowhere or to a node that is marked.
 use Prim.Native.Nat.{_+_, _-_}
-use mathlib.Core.Path.{_≡_, sym, _∙_}
+use mathlib.Core.Path.{sym, _∙_}
 use borrow.Author.Needs.{needs}
 use borrow.Author.Tests.{not-true, not-false}
 use Rattle.memory.specs.Bus.{busOn, readOf}
