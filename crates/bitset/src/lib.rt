@@ -20,7 +20,7 @@ fn word_at(words: &[u64], i: usize) -> u64
 }
 
 // Whether an address is in the set.
-pub fn has(words: &[u64], address: u16) -> bool
+fn has(words: &[u64], address: u16) -> bool
     ensures { λ r. ⌜ r ≡ contains (now (words .entry)) address ⌝ }
 {
     (word_at(words, (address / 64) as usize) >> (address % 64)) % 2 == 1
