@@ -24,7 +24,7 @@ use Rattle.meter.proofs.WalkLaws.{wait-answers}
 use Rattle.meter.proofs.ScanLaws.{named-law, named-agree, same-starts}
 
 -- by whether a call is let in
-unless-either : {A : Type 0} (P : A → Type 0) (a : Admission) {refuse : Refusal → A} {x : A} → ((r : Refusal) → P (refuse r)) → (a ≡ Admitted → P x) → P (unlessBarred a refuse x)
+pub unless-either : {A : Type 0} (P : A → Type 0) (a : Admission) {refuse : Refusal → A} {x : A} → ((r : Refusal) → P (refuse r)) → (a ≡ Admitted → P x) → P (unlessBarred a refuse x)
 unless-either P Admitted p q = q refl
 unless-either P (Barred r) p q = p r
 
@@ -50,6 +50,10 @@ region-in b first last limit =
     (λ a. cond-either P (ltb last first) (λ p. barred)
     (λ p. cond-either P (ltb 4096 limit) (λ q. barred) (λ q e. record { admitted = a; ordered = ltb-false last first p; low = ltb-false 4096 limit q })))
 
+pub lets-in : (b : Bus) (first last limit : ℕ) → RegionIn b first last limit → scanAdmission b first last limit ≡ Admitted
+unfolding scanAdmission
+lets-in b first last limit k = unless-in _ _ (k .admitted) ∙ cond-false _ _ (le-ltb _ _ (k .ordered)) ∙ cond-false _ _ (le-ltb _ _ (k .low))
+
 -- the first mode: what it answers where it is let in
 module _ (b : Bus) (first last limit : ℕ) where
   pub region-end : {x : Report Named} {n : Named} → x ≡ answered n → n ≡ namedOf everyAddress (answerFrom b limit) first last → scanAdmission b first last limit ≡ Admitted → x ≡ regionOf b first last limit
@@ -57,8 +61,7 @@ module _ (b : Bus) (first last limit : ℕ) where
   region-end e q a = e ∙ ap answered q ∙ sym (unless-in _ _ a)
 
   pub region-answers : admissionOf b ≡ Admitted → first ≤ last → limit ≤ 4096 → regionOf b first last limit ≡ answered (namedOf everyAddress (answerFrom b limit) first last)
-  unfolding scanAdmission
-  region-answers p q r = sym (region-end refl refl (unless-in _ _ p ∙ cond-false _ _ (le-ltb _ _ q) ∙ cond-false _ _ (le-ltb _ _ r)))
+  region-answers p q r = sym (region-end refl refl (lets-in b first last limit (record { admitted = p; ordered = q; low = r })))
 
 pub names-its-starts : NamesItsStarts
 unfolding regionOf
@@ -94,7 +97,7 @@ module _ (b : Bus) (first last limit : ℕ) (clear set : List ℕ) where
   unfolding regionOf regionReachedOf
   as-first p q h =
       unless-same (scanAdmission b first last limit) _ _ _ refl
-      (λ e. rw (p, q) (ap answered (named-agree (contains clear) everyAddress (answerFrom b limit) first last (region-in b first last limit e .ordered) h)))
+      (λ e. rw (p, q) (ap answered (named-agree (contains clear) everyAddress _ (answerFrom b limit) first last (region-in b first last limit e .ordered) (λ a l k. record { starts = h a l k; alike = λ m. refl }))))
 
   set-unread : (set′ : List ℕ) → length set ≡ length set′ → regionReachedOf b first last limit clear set ≡ regionReachedOf b first last limit clear set′
   unfolding regionReachedOf

@@ -2,7 +2,7 @@
 use Prim.Native.Nat.{ℕ, zero, suc, _+_, _-_, _<_, _≤_}
 use mathlib.Core.Path.{_≡_, refl, ap, sym, _∙_}
 use mathlib.Core.Logic.{_⊎_, inl, inr, ⊎-elim, _↔_}
-use mathlib.Core.Bool.{Bool, true, false}
+use mathlib.Core.Bool.{Bool, true, false, cond}
 use native.Mathlib.Nat.{le-of-eq}
 use native.Mathlib.Decide.{decLt}
 use native.Mathlib.Omega.{arith}
@@ -147,22 +147,32 @@ module _ (isStart : ℕ → Bool) (answers : ℕ → Answer) (first : ℕ) where
       let j : first + (suc last - first) ≡ suc last = omega arith in
       record { longest-is = rw j at (longest-law (suc last - first)); lowest-is = rw j at (lowest-law (suc last - first)) }
 
--- two sets that agree among the n addresses from first on
-module _ (isStart isStart′ : ℕ → Bool) (answers : ℕ → Answer) (first : ℕ) where
-  longest-agree : (n : ℕ) → ((a : ℕ) → first ≤ a → a < first + n → isStart a ≡ isStart′ a) → longestBy n isStart answers first ≡ longestBy n isStart′ answers first
+-- two sets that agree among the n addresses from first on, with answers that agree at their starts
+pub record AgreeOn (isStart isStart′ : ℕ → Bool) (answers answers′ : ℕ → Answer) (a : ℕ) : Type 0 where
+  pub starts : isStart a ≡ isStart′ a
+  pub alike : isStart a ≡ true → answers a ≡ answers′ a
+
+module _ (isStart isStart′ : ℕ → Bool) (answers answers′ : ℕ → Answer) (first : ℕ) where
+  -- one address more, by what it adds to what is named where it is a start
+  next-agree : {A : Type 0} (add : A → Answer → ℕ → A) {l l′ : A} (a : ℕ) → AgreeOn isStart isStart′ answers answers′ a → l ≡ l′ →
+      cond (isStart a) (add l (answers a) a) l ≡ cond (isStart′ a) (add l′ (answers′ a) a) l′
+  next-agree add {l} {l′} a k e =
+      rw (e, ← k .starts) (cond-either (λ x. x ≡ cond (isStart a) (add l′ (answers′ a) a) l′) (isStart a) (λ t. rw (t, k .alike t)) (λ t. rw t))
+
+  longest-agree : (n : ℕ) → ((a : ℕ) → first ≤ a → a < first + n → AgreeOn isStart isStart′ answers answers′ a) → longestBy n isStart answers first ≡ longestBy n isStart′ answers′ first
   unfolding longestBy
   longest-agree zero h = refl
-  longest-agree (suc n) h = rw (h (first + n) (omega arith) (omega arith), longest-agree n (λ a p q. h a p (omega arith)))
+  longest-agree (suc n) h = next-agree longerOf (first + n) (h (first + n) (omega arith) (omega arith)) (longest-agree n (λ a p q. h a p (omega arith)))
 
-  lowest-agree : (n : ℕ) → ((a : ℕ) → first ≤ a → a < first + n → isStart a ≡ isStart′ a) → lowestBy n isStart answers first ≡ lowestBy n isStart′ answers first
+  lowest-agree : (n : ℕ) → ((a : ℕ) → first ≤ a → a < first + n → AgreeOn isStart isStart′ answers answers′ a) → lowestBy n isStart answers first ≡ lowestBy n isStart′ answers′ first
   unfolding lowestBy
   lowest-agree zero h = refl
-  lowest-agree (suc n) h = rw (h (first + n) (omega arith) (omega arith), lowest-agree n (λ a p q. h a p (omega arith)))
+  lowest-agree (suc n) h = next-agree lowerOf (first + n) (h (first + n) (omega arith) (omega arith)) (lowest-agree n (λ a p q. h a p (omega arith)))
 
-  pub named-agree : (last : ℕ) → first ≤ last → ((a : ℕ) → first ≤ a → a ≤ last → isStart a ≡ isStart′ a) → namedOf isStart answers first last ≡ namedOf isStart′ answers first last
+  pub named-agree : (last : ℕ) → first ≤ last → ((a : ℕ) → first ≤ a → a ≤ last → AgreeOn isStart isStart′ answers answers′ a) → namedOf isStart answers first last ≡ namedOf isStart′ answers′ first last
   unfolding namedOf
   named-agree last low h =
-      let k : (a : ℕ) → first ≤ a → a < first + (suc last - first) → isStart a ≡ isStart′ a = λ a p q. h a p (omega arith) in
+      let k : (a : ℕ) → first ≤ a → a < first + (suc last - first) → AgreeOn isStart isStart′ answers answers′ a = λ a p q. h a p (omega arith) in
       rw (longest-agree (suc last - first) k, lowest-agree (suc last - first) k)
 
 -- by other words for which addresses are starts

@@ -13,12 +13,13 @@ use Rattle.meter.specs.declared.walk.Next.{Next}
 use Rattle.meter.specs.declared.walk.Next.the-variants.{Ends, GoesOn}
 use Rattle.meter.specs.Answer.{Answer, wait, over, halts, unspecified, answerOf}
 
--- "Limit 1 to 4,096 cycles; 0 means 57"
+-- "Limit 1 to 4,096 cycles"
 abbrev pub highestLimit : ℕ
 highestLimit = 4096
 
+-- Document 02, [5]: "A limit of 0 should mean 48."
 abbrev pub defaultLimit : ℕ
-defaultLimit = 57
+defaultLimit = 48
 
 -- the limit walked with
 unfoldable pub limitOf : ℕ → ℕ

@@ -6,10 +6,11 @@ use crate::Walked;
 use decode::Decoded;
 use decode::rows;
 
-// Document 01's limits: the highest, and the one that 0 means.
+// The highest limit.
 pub(crate) const HIGHEST_LIMIT: u16 = 4096;
 
-const DEFAULT_LIMIT: u16 = 57;
+// The limit that 0 means.
+const DEFAULT_LIMIT: u16 = 48;
 
 // Where the walk stands: before the instruction at an address, with D and the cycles so far. (Public, since `guarantees` names it.)
 pub struct Place {

@@ -8,9 +8,9 @@ use Rattle.meter.specs.Meter.{answerFrom, namedOf, everyAddress}
 use Rattle.text.specs.Text.{codes, hexOf}
 use Rattle.report.specs.Text.{space}
 
--- "at limit 0"
+-- Document 01: "at limit 0", which meant 57. Document 02, [5]: "The metering program must now pass 57".
 abbrev pub meteringLimit : ℕ
-meteringLimit = 0
+meteringLimit = 57
 
 -- "With no Wait the middle is `WAIT NONE`."
 abbrev pub waitText : Longest → List ℕ

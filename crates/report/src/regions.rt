@@ -15,7 +15,7 @@ use meter::LowestOver;
 use meter::RegionAnswer;
 
 // The limit that every record is metered at.
-const LIMIT: u16 = 0;
+const LIMIT: u16 = 57;
 
 fn put_wait(room: &mut [u8], at: usize, longest: LongestWait) -> usize
     requires { ⌜ at + 17 ≤ length (now room) ⌝ }
