@@ -18,20 +18,17 @@ use Rattle.meter.specs.Meter.{waitOf, namedOf, scanAdmission, everyAddre
 -- these equations, so they hold in the same words where 0 means 57.
 pub record ExplicitLimits : Type 0 where
   pub waits :
-      (b : Bus) (a limit : ℕ) →
-      0 < limit →
+      (b : Bus) (a limit : ℕ) → 0 < limit →
       waitOf b a limit
       ≡ unlessBarred (admissionOf b) (λ r. refused (refusalNumber r))
       (cond (ltb highestLimit limit) (refused (refusalNumber LimitTooHigh)) (answered (walkFrom (readOf b) limit a)))
   pub regions :
-      (b : Bus) (first last limit : ℕ) →
-      0 < limit →
+      (b : Bus) (first last limit : ℕ) → 0 < limit →
       regionOf b first last limit
       ≡ unlessBarred (scanAdmission b first last limit) (λ r. refused (refusalNumber r))
       (answered (namedOf everyAddress (walkFrom (readOf b) limit) first last))
   pub reached :
-      (b : Bus) (first last limit : ℕ) (clear set : List ℕ) →
-      0 < limit →
+      (b : Bus) (first last limit : ℕ) (clear set : List ℕ) → 0 < limit →
       regionReachedOf b first last limit clear set
       ≡ unlessBarred (scanAdmission b first last limit) (λ r. refused (refusalNumber r))
       (cond (isWrongLength clear || isWrongLength set) (refused (refusalNumber WrongSetLength))
@@ -47,19 +44,13 @@ pub record ZeroMeans48 : Type 0 where
 -- way it answered where it meant 57.
 pub record HigherLimits : Type 0 where
   pub waits :
-      (b : Bus) (a limit higher : ℕ) →
-      limitOf limit ≤ limitOf higher →
-      higher ≤ highestLimit →
+      (b : Bus) (a limit higher : ℕ) → limitOf limit ≤ limitOf higher → higher ≤ highestLimit →
       UnlessRefused (λ x. (x ≡ over → ⊥) → waitOf b a higher ≡ answered x) (waitOf b a limit)
   pub regions :
-      (b : Bus) (first last limit higher : ℕ) →
-      limitOf limit ≤ limitOf higher →
-      higher ≤ highestLimit →
+      (b : Bus) (first last limit higher : ℕ) → limitOf limit ≤ limitOf higher → higher ≤ highestLimit →
       UnlessRefused (λ n. n .lowest-over ≡ noOver → regionOf b first last higher ≡ answered n) (regionOf b first last limit)
   pub reached :
-      (b : Bus) (first last limit higher : ℕ) (clear set : List ℕ) →
-      limitOf limit ≤ limitOf higher →
-      higher ≤ highestLimit →
+      (b : Bus) (first last limit higher : ℕ) (clear set : List ℕ) → limitOf limit ≤ limitOf higher → higher ≤ highestLimit →
       UnlessRefused (λ n. n .lowest-over ≡ noOver → regionReachedOf b first last higher clear set ≡ answered n) (regionReachedOf b first last limit clear set)
 
 -- three MVO@ R0,R1, six CLRC and NOP: 9, 4 and 6 cycles each, 57 from the first and 48 from the second
