@@ -9,3 +9,4 @@ pub mod RefusedLaws
 pub mod ReadLaws
 pub mod ReachLaws
 pub mod StepsLaws
+pub mod LimitLaws

@@ -1,5 +1,5 @@
--- What a caller in C reads from the calls: what document 01's definitions answer. Proved in `proofs/AnswerLaws`, `proofs/ReadLaws` and
--- `proofs/StepsLaws`; `Calls` has what holds of every refused call.
+-- What a caller in C reads from the calls: what document 01's definitions answer. Proved in `proofs/AnswerLaws`, `proofs/ReadLaws`,
+-- `proofs/StepsLaws` and `proofs/LimitLaws`; `Calls` has what holds of every refused call.
 use Prim.Native.Nat.{ℕ, _≤_}
 use mathlib.Core.Path.{_≡_}
 use mathlib.Core.Bool.{true}
@@ -59,6 +59,14 @@ ReadsTheText =
     (mem map : List ℕ) (address d : ℕ) (text out : List ℕ) →
     WellLent (cp1610-list mem map address d text out) →
     HasText (textAt (readOf (onMap map mem)) address (isSet d)) (readListing (callOf (cp1610-list mem map address d text out)))
+
+-- document 02, [5]: "A limit of 0 should mean 48." A call of the wait meter answers and leaves the same at both.
+pub record CallsAtZero : Type 0 where
+  pub wait : (mem map : List ℕ) (address : ℕ) → callOf (cp1610-wait mem map address 0) ≡ callOf (cp1610-wait mem map address 48)
+  pub region : (mem map : List ℕ) (first last : ℕ) (out : List ℕ) → callOf (cp1610-region mem map first last 0 out) ≡ callOf (cp1610-region mem map first last 48 out)
+  pub region-reached :
+      (mem map : List ℕ) (first last : ℕ) (clear set out : List ℕ) →
+      callOf (cp1610-region-reached mem map first last 0 clear set out) ≡ callOf (cp1610-region-reached mem map first last 48 clear set out)
 
 -- the header's map of one 16-bit range over all addresses is a map, and an all-RAM board's
 pub record HeaderMap : Type 0 where
