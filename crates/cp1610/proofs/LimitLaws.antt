@@ -1,7 +1,5 @@
 -- The calls of the wait meter at limit 0: what the meter answers there it answers at 48.
-use Prim.Native.Nat.{ℕ}
 use mathlib.Core.Path.{ap}
-use mathlib.Core.List.{List}
 use Rattle.refusal.specs.Report.{Report}
 use Rattle.meter.specs.Answer.{Named}
 use Rattle.meter.proofs.LimitLaws.{zero-means-48}
