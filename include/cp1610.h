@@ -10,7 +10,7 @@
 #include <stdint.h>
 
 /* The number of this interface, raised by each request that changes or adds a call. */
-#define CP1610_INTERFACE 4
+#define CP1610_INTERFACE 5
 
 #ifdef __cplusplus
 extern "C" {
@@ -140,13 +140,13 @@ uint64_t cp1610_step(uint16_t *state, size_t state_length, uint16_t *mem, size_t
 uint64_t cp1610_run(uint16_t *state, size_t state_length, uint16_t *mem, size_t mem_length, const uint16_t *map, size_t map_length,
     uint32_t lines, uint32_t budget, uint32_t *out, size_t out_length);
 
-/* The wait meter for an address. Kind 1 a request is heard after so many cycles, which is the value; 2 they are more than the limit;
- * 3 the walk meets HLT; 4 it meets an unspecified form, whose address is the value.
+/* The wait meter for an address. A limit of 0 means 48 cycles. Kind 1 a request is heard after so many cycles, which is the value; 2 they
+ * are more than the limit; 3 the walk meets HLT; 4 it meets an unspecified form, whose address is the value.
  * Refused by 1 for a memory above 65,536 words, else by 14 for a bad map, else by 8 for a limit above 4,096. */
 uint64_t cp1610_wait(const uint16_t *mem, size_t mem_length, const uint16_t *map, size_t map_length, uint16_t address, uint16_t limit);
 
-/* The wait meter for every address from first to last. Kind 1; `out` gets whether any has a wait, the longest and the lowest start
- * that has it, whether any is over the limit, and the lowest such start.
+/* The wait meter for every address from first to last. A limit of 0 means 48 cycles. Kind 1; `out` gets whether any has a wait, the longest
+ * and the lowest start that has it, whether any is over the limit, and the lowest such start.
  * Refused by 1 for a memory above 65,536 words, else by 14 for a bad map, else by 7 for a first above last, else by 8 for a limit
  * above 4,096. */
 uint64_t cp1610_region(const uint16_t *mem, size_t mem_length, const uint16_t *map, size_t map_length, uint16_t first, uint16_t last,
@@ -203,8 +203,8 @@ uint64_t cp1610_reach(const uint16_t *mem, size_t mem_length, const uint16_t *ma
     size_t entries_length, uint64_t *clear, size_t clear_length, uint64_t *set, size_t set_length, uint32_t *out, size_t out_length);
 
 /* The wait meter for every address from first to last that `clear` has: the reached ones, where the set was built, but any words are
- * taken. Of `set` only the length is looked at; it may be the same buffer. Kind 1; `out` gets what cp1610_region puts there, of these starts
- * alone.
+ * taken. Of `set` only the length is looked at; it may be the same buffer. A limit of 0 means 48 cycles. Kind 1; `out` gets what
+ * cp1610_region puts there, of these starts alone.
  * Refused by 1 for a memory above 65,536 words, else by 14 for a bad map, else by 7 for a first above last, else by 8 for a limit
  * above 4,096, else by 18 for a `clear` or `set` that has not just 1,024 words. */
 uint64_t cp1610_region_reached(const uint16_t *mem, size_t mem_length, const uint16_t *map, size_t map_length, uint16_t first,
