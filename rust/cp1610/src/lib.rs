@@ -71,7 +71,7 @@ pub const HIGHEST_BUDGET: u32 = 1_000_000;
 pub const HIGHEST_LIMIT: u16 = 4_096;
 
 /// The limit that a limit of 0 stands for.
-pub const USUAL_LIMIT: u16 = 57;
+pub const DEFAULT_LIMIT: u16 = 48;
 
 /// The room that a line's text needs, though no line has more than 14 bytes.
 pub const TEXT_ROOM: usize = 16;

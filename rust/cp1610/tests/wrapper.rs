@@ -2,8 +2,8 @@
 
 use cp1610::calls::{self, NO_MAP, SHORT_BUFFER};
 use cp1610::{
-    Board, CFG_ROOM, Cause, Event, Kind, Lines, Longest, MOST_ENTRIES, Machine, Mark, PairLengths, Range, Reached,
-    ReachedSet, Refusal, Region, Register, SET_WORDS, STATE_WORDS,
+    Board, CFG_ROOM, Cause, DEFAULT_LIMIT, Event, Kind, Lines, Longest, MOST_ENTRIES, Machine, Mark, PairLengths,
+    Range, Reached, ReachedSet, Refusal, Region, Register, SET_WORDS, STATE_WORDS, Wait,
 };
 
 #[test]
@@ -98,6 +98,20 @@ fn a_bad_board_is_refused_where_it_is_lent() {
     }
     let most = Board::new(&[Range::ALL_RAM; cp1610::MOST_RANGES]);
     assert!(cp1610::wait(&memory, &most, 0, 0).is_ok());
+}
+
+/// Three MVO@, six CLRC and NOP: 57 cycles from the first, 48 from the second.
+#[test]
+fn a_limit_of_0_is_the_default_limit() {
+    let memory = [0x248, 0x248, 0x248, 0x006, 0x006, 0x006, 0x006, 0x006, 0x006, 0x034];
+    let (board, set) = (Board::all_ram(), ReachedSet::from_words(&[!0; SET_WORDS], &[!0; SET_WORDS]));
+    let found = Region { longest: Some(Longest { cycles: DEFAULT_LIMIT, start: 1 }), over: Some(0) };
+    for limit in [0, DEFAULT_LIMIT] {
+        assert_eq!(cp1610::wait(&memory, &board, 1, limit), Ok(Wait::Wait { cycles: DEFAULT_LIMIT }));
+        assert_eq!(cp1610::wait(&memory, &board, 0, limit), Ok(Wait::Over));
+        assert_eq!(cp1610::region(&memory, &board, 0, 9, limit), Ok(found));
+        assert_eq!(cp1610::region_reached(&memory, &board, 0, 9, limit, &set), Ok(found));
+    }
 }
 
 /// Later lines win, and words that no line names are left.

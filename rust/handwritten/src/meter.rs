@@ -4,7 +4,7 @@ use crate::bits::{bits_of, members};
 use crate::board::Board;
 use crate::memory::Words;
 use crate::opcode::{HLT, SDBD, is_unspecified, opcode_at, row_of};
-use cp1610::{HIGHEST_LIMIT, Longest, ReachedSet, Refusal, Region, USUAL_LIMIT, Wait};
+use cp1610::{DEFAULT_LIMIT, HIGHEST_LIMIT, Longest, ReachedSet, Refusal, Region, Wait};
 
 /// How long a request waits that comes before the instruction at `address`.
 ///
@@ -68,10 +68,10 @@ fn walk_from(words: Words, starts: impl Iterator<Item = u16>, limit: u16) -> Reg
     found
 }
 
-/// "Limit 1 to 4,096 cycles; 0 means 57".
+/// "Limit 1 to 4,096 cycles"; document 02: "A limit of 0 should mean 48."
 fn limit_of(limit: u16) -> Result<u16, Refusal> {
     match limit {
-        0 => Ok(USUAL_LIMIT),
+        0 => Ok(DEFAULT_LIMIT),
         1..=HIGHEST_LIMIT => Ok(limit),
         _ => Err(Refusal::LimitTooHigh),
     }

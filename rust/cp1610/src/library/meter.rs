@@ -7,7 +7,8 @@ use crate::{Board, Longest, ReachedSet, Refusal, Region, Wait};
 /// What the C interface reports of a region.
 const REGION_WORDS: usize = 5;
 
-/// How long a bus request waits that comes before the instruction at `address`; a limit of 0 means 57.
+/// How long a bus request waits that comes before the instruction at `address`. A limit of 0 means
+/// [`DEFAULT_LIMIT`](crate::DEFAULT_LIMIT), 48.
 ///
 /// ```
 /// use cp1610::{Board, Wait};
@@ -16,6 +17,11 @@ const REGION_WORDS: usize = 5;
 /// let board = Board::all_ram();
 /// assert_eq!(cp1610::wait(&memory, &board, 0, 0)?, Wait::Wait { cycles: 24 });
 /// assert_eq!(cp1610::wait(&memory, &board, 0, 23)?, Wait::Over);
+///
+/// let memory = [0x248, 0x248, 0x248, 0x006, 0x006, 0x006, 0x006, 0x006, 0x006, 0x034]; // three MVO@, six CLRC, NOP
+/// assert_eq!(cp1610::wait(&memory, &board, 1, 0)?, Wait::Wait { cycles: 48 });
+/// assert_eq!(cp1610::wait(&memory, &board, 0, 0)?, Wait::Over);
+/// assert_eq!(cp1610::wait(&memory, &board, 0, 57)?, Wait::Wait { cycles: 57 });
 /// # Ok::<(), cp1610::Refusal>(())
 /// ```
 ///
@@ -38,7 +44,8 @@ pub fn wait(memory: &[u16], board: &Board, address: u16, limit: u16) -> Result<W
     })
 }
 
-/// The longest wait from any address of `first..=last` and its lowest start, and the lowest start over the limit.
+/// The longest wait from any address of `first..=last` and its lowest start, and the lowest start over the limit. A limit of 0 means
+/// [`DEFAULT_LIMIT`](crate::DEFAULT_LIMIT), 48.
 ///
 /// ```
 /// use cp1610::{Board, Longest, Region};
@@ -64,7 +71,8 @@ pub fn region(memory: &[u16], board: &Board, first: u16, last: u16, limit: u16) 
 }
 
 /// The longest wait from any address of `first..=last` that is in the set with D clear and its lowest start, and the lowest such start
-/// over the limit. The set is mostly one that [`reach`](crate::reach) built, but any is taken.
+/// over the limit. The set is mostly one that [`reach`](crate::reach) built, but any is taken. A limit of 0 means
+/// [`DEFAULT_LIMIT`](crate::DEFAULT_LIMIT), 48.
 ///
 /// ```
 /// use cp1610::{Board, Longest, ReachedSet, Region};
