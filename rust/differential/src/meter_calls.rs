@@ -6,7 +6,7 @@ use crate::reference;
 use crate::scene::Scene;
 use crate::tally::{Occasion, Tally};
 use crate::twin::Twin;
-use cp1610::{HIGHEST_LIMIT, Wait, calls};
+use cp1610::{DEFAULT_LIMIT, HIGHEST_LIMIT, Wait, calls};
 use std::ops::RangeInclusive;
 
 /// What is reported of a region.
@@ -18,7 +18,11 @@ const SHORT_REGION: u64 = 200;
 /// Limits that are neither few cycles nor the highest.
 const LONG_WALKS: RangeInclusive<u32> = 64..=HIGHEST_LIMIT as u32 - 1;
 
-/// Mostly short; some of any length, and some on either side of the wait from the address.
+/// What a limit of 0 stood for up to interface 4.
+const FORMER_DEFAULT: u16 = 57;
+
+/// Mostly short; some of any length, some at what 0 stands for and stood for, and some on either side of the wait from the address. 0 is
+/// drawn more often where that wait shows what it stands for.
 fn any_limit(random: &mut Random, memory: &[u16], map: &Map, address: u16) -> u16 {
     match random.below(16) {
         0 => HIGHEST_LIMIT,
@@ -27,8 +31,15 @@ fn any_limit(random: &mut Random, memory: &[u16], map: &Map, address: u16) -> u1
         3 | 4 => 0,
         5 | 6 => random.within(LONG_WALKS) as u16,
         7 | 8 => (wait_from(memory, map, address) + random.below(3) as u16).saturating_sub(1),
+        9 | 10 => random.pick(&[DEFAULT_LIMIT, DEFAULT_LIMIT + 1, FORMER_DEFAULT]),
+        _ if (DEFAULT_LIMIT..=FORMER_DEFAULT).contains(&wait_from(memory, map, address)) => 0,
         _ => random.within(0..=LONG_WALKS.start() - 1) as u16,
     }
+}
+
+/// Whether a call at limit 0 shows what 0 stands for: with the former default its answer is another.
+pub(crate) fn shows_default<T: PartialEq>(limit: u16, answer_at: impl Fn(u16) -> T) -> bool {
+    limit == 0 && answer_at(DEFAULT_LIMIT) != answer_at(FORMER_DEFAULT)
 }
 
 fn wait_from(memory: &[u16], map: &Map, address: u16) -> u16 {
@@ -55,6 +66,11 @@ pub(crate) fn wait(random: &mut Random, scene: &mut Scene, tally: &mut Tally) {
             _ => {}
         }
     }
+    let answer_at = |limit| reference::wait(scene.memory.items(), map.board(), address, limit);
+    tally.count_met([
+        (Occasion::DefaultWait, limit == 0 && (ours >> 32, ours as u32) == (1, DEFAULT_LIMIT.into())),
+        (Occasion::DefaultOver, shows_default(limit, answer_at)),
+    ]);
 }
 
 pub(crate) fn any_region(random: &mut Random, scene: &Scene, map: &Map) -> (u16, u16, u16) {
@@ -80,6 +96,9 @@ pub(crate) fn region(random: &mut Random, scene: &mut Scene, tally: &mut Tally) 
     scene.memory.assert_equal(&call, "memory");
     map.assert_equal(&call);
     tally.count("region", ours, || region_kind(out.items()));
+    let memory = scene.memory.items();
+    let answer_at = |limit| map.board().map(|board| handwritten::region(memory, board, first, last, limit));
+    tally.count_met([(Occasion::DefaultRegion, shows_default(limit, answer_at))]);
 }
 
 /// What a region's report names.

@@ -1,7 +1,7 @@
 //! The set of reached addresses, and the meter of a region's members.
 
 use crate::map::{Map, Part};
-use crate::meter_calls::{REGION_WORDS, any_region, region_kind};
+use crate::meter_calls::{REGION_WORDS, any_region, region_kind, shows_default};
 use crate::random::Random;
 use crate::reference;
 use crate::scene::Scene;
@@ -175,4 +175,7 @@ pub(crate) fn region(random: &mut Random, scene: &mut Scene, tally: &mut Tally) 
         let is_other = of_all != out.items()[..REGION_WORDS];
         tally.count_met([(Occasion::OneBuffer, is_one), (Occasion::StartLeftOut, is_other)]);
     }
+    let answer_at =
+        |limit| map.board().map(|board| handwritten::region_reached(memory.items(), board, first, last, limit, &set));
+    tally.count_met([(Occasion::DefaultMembers, shows_default(limit, answer_at))]);
 }

@@ -44,6 +44,14 @@ pub(crate) enum Occasion {
     LongWait,
     /// A walk over a limit of 64 to 4,095.
     LongOver,
+    /// A limit of 0 and a wait of 48 cycles, the longest that it takes.
+    DefaultWait,
+    /// One and a walk of 49 to 57 cycles, which were within the limit that 0 stood for up to interface 4.
+    DefaultOver,
+    /// One and a region whose answer has changed with such a walk.
+    DefaultRegion,
+    /// One and such a region of a set's members.
+    DefaultMembers,
     /// A file of more than three records, loaded.
     ManyRecordsLoaded,
     /// A file of more than three records, written.
@@ -127,10 +135,14 @@ pub(crate) enum Occasion {
 }
 
 /// All of them, as they are printed.
-const OCCASIONS: [(Occasion, &str); 43] = [
+const OCCASIONS: [(Occasion, &str); 47] = [
     (Occasion::LongRun, "budgets of 5,000 to 999,997 spent"),
     (Occasion::LongWait, "limits of 64 to 4,095 with such a wait"),
     (Occasion::LongOver, "passed"),
+    (Occasion::DefaultWait, "limits of 0 with a wait of 48"),
+    (Occasion::DefaultOver, "with a walk of 49 to 57"),
+    (Occasion::DefaultRegion, "in a region"),
+    (Occasion::DefaultMembers, "in one of members"),
     (Occasion::ManyRecordsLoaded, "files of more than three records loaded"),
     (Occasion::ManyRecordsWritten, "and written"),
     (Occasion::ManyLinesLoaded, "texts of more than three mapping lines loaded"),
