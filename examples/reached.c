@@ -16,8 +16,8 @@
 enum {
     /* One entry more than a call takes, so that too many are refused and not cut. */
     ENTRIES_ROOM = CP1610_MOST_ENTRIES + 1,
-    /* Asks for the usual limit. */
-    USUAL_LIMIT = 0
+    /* The metering program's limit in cycles, so that the first answer is what `kit meter` prints. A limit of 0 would ask for 48. */
+    LIMIT = 57
 };
 
 /* Which addresses are reached with D clear, and which with D set. */
@@ -61,12 +61,12 @@ int main(int argc, char **argv) {
         entries[count++] = address_of(argv[n]);
 
     uint32_t found[CP1610_REACH_WORDS], all[CP1610_REGION_WORDS], members[CP1610_REGION_WORDS];
-    taken("region", cp1610_region(memory, MEMORY_WORDS, CP1610_ALL_RAM, CP1610_ALL_RAM_WORDS, first, last, USUAL_LIMIT, all,
+    taken("region", cp1610_region(memory, MEMORY_WORDS, CP1610_ALL_RAM, CP1610_ALL_RAM_WORDS, first, last, LIMIT, all,
                         CP1610_REGION_WORDS));
     taken("reach", cp1610_reach(memory, MEMORY_WORDS, CP1610_ALL_RAM, CP1610_ALL_RAM_WORDS, entries, count, clear, CP1610_SET_WORDS, set,
                        CP1610_SET_WORDS, found, CP1610_REACH_WORDS));
-    taken("region_reached", cp1610_region_reached(memory, MEMORY_WORDS, CP1610_ALL_RAM, CP1610_ALL_RAM_WORDS, first, last, USUAL_LIMIT,
-                                clear, CP1610_SET_WORDS, set, CP1610_SET_WORDS, members, CP1610_REGION_WORDS));
+    taken("region_reached", cp1610_region_reached(memory, MEMORY_WORDS, CP1610_ALL_RAM, CP1610_ALL_RAM_WORDS, first, last, LIMIT, clear,
+                                CP1610_SET_WORDS, set, CP1610_SET_WORDS, members, CP1610_REGION_WORDS));
     print_region("every address", all);
     print_set(found);
     print_region("those reached", members);
