@@ -4,6 +4,9 @@
 #include <stdio.h>
 #include <string.h>
 
+/* In cycles: what a limit of 0 asked for up to interface 4, so that the figures compare with those of before. */
+enum { LIMIT = 57 };
+
 static uint16_t mem[65536], back[65536];
 static uint8_t file[131464], bin[131072], cfg[CP1610_CFG_ROOM];
 static uint64_t clear[CP1610_SET_WORDS], set[CP1610_SET_WORDS];
@@ -77,7 +80,7 @@ static int reach(void) {
     uint32_t found[CP1610_REACH_WORDS], named[CP1610_REGION_WORDS];
     uint64_t built = cp1610_reach(mem, 65536, CP1610_ALL_RAM, CP1610_ALL_RAM_WORDS, entries, 1, clear, CP1610_SET_WORDS, set,
         CP1610_SET_WORDS, found, CP1610_REACH_WORDS);
-    uint64_t metered = cp1610_region_reached(mem, 65536, CP1610_ALL_RAM, CP1610_ALL_RAM_WORDS, 0, 65535, 0, clear, CP1610_SET_WORDS, set,
+    uint64_t metered = cp1610_region_reached(mem, 65536, CP1610_ALL_RAM, CP1610_ALL_RAM_WORDS, 0, 65535, LIMIT, clear, CP1610_SET_WORDS, set,
         CP1610_SET_WORDS, named, CP1610_REGION_WORDS);
     if (cp1610_is_refused(built) || cp1610_is_refused(metered))
         return 0;
@@ -92,7 +95,7 @@ int main(void) {
     int listed = lines();
     printf("%d lines listed and assembled\n", listed);
     uint32_t named[CP1610_REGION_WORDS];
-    uint64_t metered = cp1610_region(mem, 65536, CP1610_ALL_RAM, CP1610_ALL_RAM_WORDS, 0, 65535, 0, named, CP1610_REGION_WORDS);
+    uint64_t metered = cp1610_region(mem, 65536, CP1610_ALL_RAM, CP1610_ALL_RAM_WORDS, 0, 65535, LIMIT, named, CP1610_REGION_WORDS);
     printf("65536 starts metered, longest wait %u at %04X\n", named[CP1610_LONGEST], named[CP1610_LONGEST_START]);
     to_code();
     return !equal || listed < 0 || cp1610_is_refused(metered) || !reach();

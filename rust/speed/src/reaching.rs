@@ -3,7 +3,7 @@
 
 use crate::measured::{Measured, digest, time_of};
 use crate::programs::{BOARD, made_up_code, made_up_words};
-use crate::workloads::ALL_RAM;
+use crate::workloads::{ALL_RAM, LIMIT};
 use cp1610::{LONGEST_MEMORY, MOST_ENTRIES, ReachedSet, SET_WORDS};
 use differential::Kit;
 use std::hint::black_box;
@@ -78,7 +78,7 @@ fn region<K: Kit>(word: u64) -> Measured {
     let (memory, board) = (made_up_words(), K::board(ALL_RAM));
     let set = ReachedSet::from_words(&[word; SET_WORDS], &[word; SET_WORDS]);
     let mut found = None;
-    let time = time_of(|| found = K::region_reached(&memory, &board, 0, u16::MAX, black_box(0), &set).ok());
+    let time = time_of(|| found = K::region_reached(&memory, &board, 0, u16::MAX, black_box(LIMIT), &set).ok());
     Measured { units: LONGEST_MEMORY as u64, time, digest: digest(format!("{found:?}")) }
 }
 
