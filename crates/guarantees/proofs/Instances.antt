@@ -88,5 +88,7 @@ not-empty =
       loaded-high-byte = λ p. changed-word (first-leaves _ _ _ (p .unstored));
       untaken = record { premises = record { stands = search needs; low = search needs; unstored = unstored _ _ refl }; answers = refl; granted = refl; after = refl };
       exceeded = record { premises = record { stands = search needs; low = search needs; unstored = unstored _ _ refl }; answers = refl; granted = refl; after = refl };
+      default = record { premises = record { stands = search needs; low = search needs; unstored = unstored _ _ refl }; answers = refl; granted = refl; after = refl };
+      explicit = record { premises = record { stands = search needs; low = search needs; unstored = unstored _ _ refl }; answers = refl; granted = refl; after = refl };
       region = refl;
     }

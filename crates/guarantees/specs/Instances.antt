@@ -72,6 +72,10 @@ branching = busOf (0x006 ∷ 0x201 ∷ 0 ∷ [])
 abbrev pub displacing : Bus
 displacing = busOf (0x248 ∷ 0x201 ∷ 3 ∷ [])
 
+-- MVO R0,$0001 four times, 11 cycles each, and NOP: the stores go to the first one's operand, which the walk does not read
+abbrev pub storing-direct : Bus
+storing-direct = busOf (0x240 ∷ 1 ∷ 0x240 ∷ 1 ∷ 0x240 ∷ 1 ∷ 0x240 ∷ 1 ∷ 0x034 ∷ [])
+
 pub record NotEmpty : Type 0 where
   -- R1 is 0, so the store goes to its own opcode word, which the walk has read by then
   pub opcode : Shows (machine 5 0 false) storing (thrice request) 0 (wait 15) 15
@@ -90,6 +94,9 @@ pub record NotEmpty : Type 0 where
   pub untaken : Shows (machine 0 0 false) branching (thrice request) 0 (wait 13) 11
   -- the same at limit 12: the wait is over it, and the grant comes after 12 less 1
   pub exceeded : Shows (machine 0 0 false) branching (thrice request) 12 over 11
+  -- document 02, [5]: "A limit of 0 should mean 48." The wait of 50 is over it, and the grant comes no earlier than after 48 less 1; at 57 it is what it was
+  pub default : Shows (machine 5 0 false) storing-direct (replicate 6 request) 0 over 50
+  pub explicit : Shows (machine 5 0 false) storing-direct (replicate 6 request) 57 (wait 50) 50
   -- NOP, NOP, CLRC, NOP at limit 6: waits of 6 from 0, 1 and 3, and 2 is over it
   pub region :
       regionOf (busOf (0x034 ∷ 0x034 ∷ 0x006 ∷ 0x034 ∷ [])) 0 3 6
