@@ -4,7 +4,7 @@ use mathlib.Core.Path.{_≡_, refl, ap, _∙_, subst}
 use mathlib.Core.Bool.{Bool, true, _||_}
 use mathlib.Core.List.{List}
 use native.Mathlib.Omega.{arith}
-use lib.Dec.{ltb}
+use lib.Dec.{ltb, lit≤}
 use borrow.Author.Tests.{ltb-false, le-ltb, ne-eqb}
 use Rattle.refusal.specs.Report.{Report, answered, UnlessRefused}
 use Rattle.word.specs.Word.{wrapAdd}
@@ -129,6 +129,11 @@ higher-limits =
       reached = λ b first last limit higher clear set above low. reached b limit higher above low first last clear set;
     }
 
+-- from what 0 means to 57
+as-before : (b : Bus) (a : ℕ) → UnlessRefused (λ x. (x ≡ over → ⊥) → waitOf b a 57 ≡ answered x) (waitOf b a 0)
+unfolding limitOf
+as-before b a = higher-limits .waits b a 0 57 (lit≤ tt) (lit≤ tt)
+
 pub limits-instance : LimitsInstance
 unfolding wrapAdd peekOf readOf badMap admissionOf controlInstruction statusInstruction lowInstruction instructionOf isUnspecified decodeAt interruptibleEntry plainEntry controlEntry registerEntry branchCycles branchEntry memoryWords storeEntry limitOf startAt placeAfter rowTurn turnAt walkBy walkOn walkFrom longerThan lowerThan longestBy lowestBy waitOf namedOf scanAdmission regionOf
-limits-instance = record { passes-at-57 = refl; over-at-0 = refl; same-at-57 = refl; same-at-0 = refl; region-at-57 = refl; region-at-0 = refl }
+limits-instance = record { passes-at-57 = refl; over-at-0 = refl; same-at-57 = refl; same-at-0 = refl; region-at-57 = refl; region-at-0 = refl; as-before = as-before }

@@ -40,8 +40,7 @@ pub record ZeroMeans48 : Type 0 where
   pub regions : (b : Bus) (first last : ℕ) → regionOf b first last 0 ≡ regionOf b first last 48
   pub reached : (b : Bus) (first last : ℕ) (clear set : List ℕ) → regionReachedOf b first last 0 clear set ≡ regionReachedOf b first last 48 clear set
 
--- A lower limit says Over more often, and else nothing new: what a call answers without Over it answers at every higher limit. So what 0 answers in this
--- way it answered where it meant 57.
+-- A lower limit says Over more often, and else nothing new: what a call answers without Over it answers at every higher limit
 pub record HigherLimits : Type 0 where
   pub waits :
       (b : Bus) (a limit higher : ℕ) → limitOf limit ≤ limitOf higher → higher ≤ highestLimit →
@@ -65,3 +64,5 @@ pub record LimitsInstance : Type 0 where
   pub same-at-0 : waitOf threeStores 1 0 ≡ answered (wait 48)
   pub region-at-57 : regionOf threeStores 0 9 57 ≡ answered (record { longest-wait = longest 57 0; lowest-over = noOver })
   pub region-at-0 : regionOf threeStores 0 9 0 ≡ answered (record { longest-wait = longest 48 1; lowest-over = overAt 0 })
+  -- of every memory: what 0 answers without Over it answered where it meant 57
+  pub as-before : (b : Bus) (a : ℕ) → UnlessRefused (λ x. (x ≡ over → ⊥) → waitOf b a 57 ≡ answered x) (waitOf b a 0)
