@@ -55,6 +55,10 @@ const MIXED: &[&str] = &[
 const MIXED_SUBROUTINE: &[&str] =
     &["MVO@ R5,R6", "NEGR R1", "ADCR R1", "GSWD R3", "RSWD R3", "SUBR R1,R0", "RLC R1,2", "COMR R1", "MVI@ R6,R7"];
 
+/// The rows that shift through carry, by one and by two.
+const CARRY: &[&str] =
+    &["RLC R0", "RLC R1,2", "SLLC R2", "SLLC R3,2", "RRC R0", "RRC R1,2", "SARC R2", "SARC R3,2"];
+
 /// A whole memory with a program in it, and the words of a machine that starts on it.
 #[derive(Clone)]
 pub struct Program {
@@ -96,6 +100,23 @@ pub fn copy() -> Program {
 
 pub fn mixed() -> Program {
     program(&[(START, MIXED), (SUBROUTINE, MIXED_SUBROUTINE)])
+}
+
+/// Lines that fill the memory again and again, with no branch. Each of their registers starts on a word of ones and zeros.
+fn repeated(lines: &[&str]) -> Program {
+    let mut program = program(&[]);
+    program.memory = assembled(lines).into_iter().cycle().take(LONGEST_MEMORY).collect();
+    program.state[..4].fill(0xACE1);
+    program
+}
+
+pub fn carry() -> Program {
+    repeated(CARRY)
+}
+
+/// One of the rows that shift through carry, alone.
+pub fn carry_row(n: usize) -> Program {
+    repeated(&CARRY[n..=n])
 }
 
 /// The map of six ranges of `bench/drive.c`, as a console has them. The mixed program's code lies in ROM, its data in 16-bit RAM.

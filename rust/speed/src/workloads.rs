@@ -30,13 +30,22 @@ macro_rules! workload {
     };
 }
 
-pub const WORKLOADS: [Workload; 34] = [
+pub const WORKLOADS: [Workload; 43] = [
     workload!("run-alu", "step", run_alu),
     workload!("run-copy", "step", run_copy),
     workload!("run-mixed", "step", run_mixed),
     workload!("run-mixed-six", "step", run_mixed_six),
     workload!("run-mixed-sixteen", "step", run_mixed_sixteen),
     workload!("run-100-cycles", "step", run_shortly),
+    workload!("run-carry", "step", run_carry),
+    workload!("run-rlc", "step", run_carry_row, 0),
+    workload!("run-rlc-2", "step", run_carry_row, 1),
+    workload!("run-sllc", "step", run_carry_row, 2),
+    workload!("run-sllc-2", "step", run_carry_row, 3),
+    workload!("run-rrc", "step", run_carry_row, 4),
+    workload!("run-rrc-2", "step", run_carry_row, 5),
+    workload!("run-sarc", "step", run_carry_row, 6),
+    workload!("run-sarc-2", "step", run_carry_row, 7),
     workload!("step", "step", step),
     workload!("wait", "call", wait),
     workload!("region", "start", region),
@@ -112,6 +121,14 @@ fn run_mixed_sixteen<K: Kit>() -> Measured {
 
 fn run_shortly<K: Kit>() -> Measured {
     run::<K>(programs::mixed(), ALL_RAM, SHORT_RUN, SHORT_RUNS)
+}
+
+fn run_carry<K: Kit>() -> Measured {
+    run::<K>(programs::carry(), ALL_RAM, HIGHEST_BUDGET, 1)
+}
+
+fn run_carry_row<K: Kit, const ROW: usize>() -> Measured {
+    run::<K>(programs::carry_row(ROW), ALL_RAM, HIGHEST_BUDGET, 1)
 }
 
 fn step<K: Kit>() -> Measured {
