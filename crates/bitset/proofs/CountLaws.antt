@@ -13,7 +13,8 @@ use lib.Pow.{shr-lt}
 use lib.Bits.{bitOr, or-lt}
 use lib.Count.{ones, ones-step}
 use Rattle.bitset.specs.Bits.{contains, inserted, inEither, countBelow, sizeOf}
-use Rattle.bitset.proofs.DigitLaws.{digit, digit-lt, digit-or, digit-zero, digit-suc, bit-count, bit-either}
+use Rattle.word.proofs.BitLaws.{digit, digit-lt, bit-count}
+use Rattle.bitset.proofs.DigitLaws.{digit-or, digit-zero, digit-suc, bit-either}
 use Rattle.bitset.proofs.SetLaws.{inserted-same, inserted-other, inserted-known, empty-has-none}
 
 cond-le : (b : Bool) → cond b 1 0 ≤ 1

@@ -1,21 +1,15 @@
 -- The bits of a word as numbers: of a union, of a single bit, and of a word cut in half.
 use Prim.Native.Nat.{ℕ, zero, suc, _+_, _-_, _*_, _/_, _%_, _^_, _<_, max}
 use mathlib.Core.Path.{_≡_, refl, sym, ap, _∙_}
-use mathlib.Core.Bool.{cond, _||_}
-use native.Mathlib.Nat.{mod-lt, one-le-pow, pow-suc, zero-lt-suc, mul-div-cancel, div-eq-of-lt, one-mul, mul-mod-left}
+use mathlib.Core.Bool.{_||_}
+use native.Mathlib.Nat.{one-le-pow, pow-suc, zero-lt-suc, mul-div-cancel, div-eq-of-lt, one-mul, mul-mod-left}
 use native.Mathlib.Decide.{decLt}
-use native.Mathlib.Numerals.{add-one, one-add}
+use native.Mathlib.Numerals.{one-add}
 use native.Mathlib.Omega.{arith}
 use lib.Dec.{eqb}
-use lib.Pow.{pow-lt, pow-add, shr-shr, shl-shr, shl-exact, shr-lt}
+use lib.Pow.{pow-lt, pow-add, shr-shr, shl-shr, shl-exact}
 use lib.Bits.{bitOr, or-shr, or-step, or-zero-r}
-
--- bit k of a word, as a number: `bit k w` asks whether it is 1
-abbrev pub digit : ℕ → ℕ → ℕ
-digit w k = w / 2 ^ k % 2
-
-pub digit-lt : (w k : ℕ) → digit w k < 2
-digit-lt w k = mod-lt (w / 2 ^ k) (zero-lt-suc 1)
+use Rattle.word.proofs.BitLaws.{digit}
 
 pub digit-or : (a b k : ℕ) → digit (bitOr a b) k ≡ max (digit a k) (digit b k)
 digit-or a b k = rw (or-shr, or-step (a / 2 ^ k) (b / 2 ^ k)) (omega arith)
@@ -46,12 +40,6 @@ digit-zero w = omega arith
 pub digit-suc : (w k : ℕ) → digit w (suc k) ≡ digit (w / 2) k
 digit-suc w k = rw (← one-add k, ← shr-shr w 1 k)
 
--- a bit is 0 or 1
-pub bit-count : (x : ℕ) → x < 2 → cond (eqb x 1) 1 0 ≡ x
-bit-count zero h = refl
-bit-count (suc zero) h = refl
-bit-count (suc (suc x)) h = absurd (omega arith)
-
 pub bit-either : (x y : ℕ) → x < 2 → y < 2 → eqb (max x y) 1 ≡ (eqb x 1 || eqb y 1)
 bit-either zero zero p q = refl
 bit-either zero (suc zero) p q = refl
@@ -69,15 +57,6 @@ or-known w (suc k) h =
     let p : 2 ^ suc k / 2 ≡ 2 ^ k = rw (pow-suc 2 k) (mul-div-cancel (2 ^ k) (zero-lt-suc 1)) in
     let q : 2 ^ suc k % 2 ≡ 0 = rw (pow-suc 2 k) (mul-mod-left (2 ^ k) 2) in
     rw (or-step w (2 ^ suc k), p, q, e) (omega arith)
-
--- a word is fixed by its bits
-pub same-digits : (n w v : ℕ) → w < 2 ^ n → v < 2 ^ n → ((k : ℕ) → k < n → digit w k ≡ digit v k) → w ≡ v
-same-digits zero w v p q h = omega arith
-same-digits (suc n) w v p q h =
-    let high : w / 2 ≡ v / 2 =
-    same-digits n (w / 2) (v / 2) (shr-lt n 1 (rw (← add-one n) at p)) (shr-lt n 1 (rw (← add-one n) at q)) (λ k l. sym (digit-suc w k) ∙ h (suc k) (omega arith) ∙ digit-suc v k) in
-    let low : w % 2 ≡ v % 2 = sym (digit-zero w) ∙ h zero (omega arith) ∙ digit-zero v in
-    omega arith
 
 -- a word of ones
 pub digit-full : (n k : ℕ) → k < n → digit (2 ^ n - 1) k ≡ 1

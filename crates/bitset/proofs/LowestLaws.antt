@@ -14,7 +14,8 @@ use lib.Pow.{shr-lt}
 use lib.Count.{trailingZeros, under}
 use Rattle.bitset.specs.Bits.{contains, LowestOrNone, none, lowestAt, keepLowest, lowestBelow}
 use Rattle.bitset.specs.Laws.{IsLowest, LowestLaws}
-use Rattle.bitset.proofs.DigitLaws.{digit, digit-zero, digit-suc}
+use Rattle.word.proofs.BitLaws.{digit}
+use Rattle.bitset.proofs.DigitLaws.{digit-zero, digit-suc}
 
 keep-is : (f : ℕ → Bool) (n : ℕ) (l : LowestOrNone) → IsLowest f n l → f n ≡ true → IsLowest f (suc n) (keepLowest l n)
 keep-is f n none h e = (omega arith, e, h)

@@ -1,7 +1,7 @@
 -- Members of a set after an address was put in.
 use Prim.Native.Nat.{ℕ, zero, suc, _+_, _-_, _*_, _/_, _%_, _^_, _<_}
 use mathlib.Core.Path.{_≡_, refl, sym, ap, _∙_}
-use mathlib.Core.Bool.{Bool, true, false, cond, true≢false}
+use mathlib.Core.Bool.{true, false, true≢false}
 use mathlib.Core.List.{List, [], _∷_}
 use mathlib.Core.Logic.{_⊎_, inl, inr}
 use native.Mathlib.Nat.{zero-div, le-of-suc-le-suc}
@@ -14,7 +14,8 @@ use lib.Pow.{pow-lt}
 use lib.Bits.{bitOr, or-lt}
 use Rattle.bitset.specs.Bits.{contains, inserted, SetBuffer}
 use Rattle.bitset.specs.Laws.{MemberLaws, SameMembers}
-use Rattle.bitset.proofs.DigitLaws.{digit, digit-lt, digit-or, digit-pow-same, digit-pow-other, or-known, bit-count, same-digits, digit-full}
+use Rattle.word.proofs.BitLaws.{digit, digit-lt, equal-bits}
+use Rattle.bitset.proofs.DigitLaws.{digit-or, digit-pow-same, digit-pow-other, or-known, digit-full}
 use borrow.Author.Tests.{eqb-true}
 
 -- a set with an address more is as long
@@ -123,18 +124,15 @@ inserted-only ws a b h = go (ℕ-discrete a b)
     go (no e) = inr (sym (inserted-other ws a b e) ∙ h)
 
 -- a set's words are fixed by its members
-same-bit : (w v : ℕ) → w < 2 → v < 2 → eqb w 1 ≡ eqb v 1 → w ≡ v
-same-bit w v p q e = sym (bit-count w p) ∙ ap (λ (b : Bool). cond b 1 0) e ∙ bit-count v q
-
 pub same-members : SameMembers
 unfolding contains
 same-members c d p q h =
     ext-getD 0 c d (p .long ∙ sym (q .long))
-    (λ i b. same-digits 64 (getD c i 0) (getD d i 0) (p .words-fit i) (q .words-fit i)
+    (λ i b. equal-bits 64 (getD c i 0) (getD d i 0) (p .words-fit i) (q .words-fit i)
     (λ k l.
     let e : (64 * i + k) / 64 ≡ i = omega arith in
     let m : (64 * i + k) % 64 ≡ k = omega arith in
-    same-bit _ _ (digit-lt (getD c i 0) k) (digit-lt (getD d i 0) k) (rw (e, m) at (h (64 * i + k)))))
+    rw (e, m) at (h (64 * i + k))))
 
 pub member-laws : MemberLaws
 member-laws = record { same = inserted-same; other = inserted-other; known = inserted-known; none = empty-has-none; all = full-has-all }

@@ -9,7 +9,8 @@ use borrow.Author.Tests.{eq-eqb}
 use lib.ListN.{getD}
 use lib.Pow.{pow-pos}
 use Rattle.bitset.specs.Bits.{contains}
-use Rattle.bitset.proofs.DigitLaws.{digit, digit-zero, digit-suc}
+use Rattle.word.proofs.BitLaws.{digit}
+use Rattle.bitset.proofs.DigitLaws.{digit-zero, digit-suc}
 use Rattle.meter.specs.Answer.{Answer, Named}
 use Rattle.meter.specs.Scan.{longestBy, lowestBy}
 use Rattle.meter.specs.Meter.{namedBefore}

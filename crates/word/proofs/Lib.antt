@@ -1,5 +1,6 @@
--- Laws of choices, of words and of flags.
+-- Laws of choices, of words, of their bits and of flags.
 pub mod Choice
 pub mod WordLaws
+pub mod BitLaws
 pub mod FlagLaws
 pub mod SetsLaws
