@@ -3,4 +3,5 @@ pub mod Choice
 pub mod WordLaws
 pub mod BitLaws
 pub mod FlagLaws
+pub mod ThroughCarry
 pub mod SetsLaws

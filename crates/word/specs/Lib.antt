@@ -2,3 +2,5 @@
 pub mod Word
 pub mod Flags
 pub mod Shifts
+pub mod ThroughCarry
+pub mod inner
