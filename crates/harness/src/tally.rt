@@ -17,7 +17,8 @@ pub fn empty() -> Tally
     }
 }
 
-fn counted(tally: Tally, well: bool) -> Tally
+// Counts a case, without a line.
+pub fn counted(tally: Tally, well: bool) -> Tally
     ensures { λ r. ⌜ r ≡ countedOf tally well ⌝ }
 {
     let cases = std::num::wrapping_add_u64(tally.cases, 1);
