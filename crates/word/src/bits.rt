@@ -53,11 +53,11 @@ pub(crate) fn taken_apart(f: Flagged) -> Bits
     }
 }
 
-// Bit 15 comes last: added first it costs each of the rows a machine instruction or two (docs/SPEED.md).
 fn put_together(b: Bits) -> u16
     ensures { λ r. ⌜ r ≡ wordOf b ⌝ }
 {
-    crate::bit_value(b.bit14) * 16384
+    crate::bit_value(b.bit15) * 32768
+        + crate::bit_value(b.bit14) * 16384
         + crate::bit_value(b.bit13) * 8192
         + crate::bit_value(b.bit12) * 4096
         + crate::bit_value(b.bit11) * 2048
@@ -72,7 +72,6 @@ fn put_together(b: Bits) -> u16
         + crate::bit_value(b.bit2) * 4
         + crate::bit_value(b.bit1) * 2
         + crate::bit_value(b.bit0)
-        + crate::bit_value(b.bit15) * 32768
 }
 
 // A result with S from its bit 15, and Z.

@@ -31,7 +31,8 @@ bitsOf f =
 -- bit n counts 2 ^ n
 unfoldable pub wordOf : Bits → ℕ
 wordOf b =
-    bitValue (b .bit14) * 16384
+    bitValue (b .bit15) * 32768
+    + bitValue (b .bit14) * 16384
     + bitValue (b .bit13) * 8192
     + bitValue (b .bit12) * 4096
     + bitValue (b .bit11) * 2048
@@ -46,4 +47,3 @@ wordOf b =
     + bitValue (b .bit2) * 4
     + bitValue (b .bit1) * 2
     + bitValue (b .bit0)
-    + bitValue (b .bit15) * 32768
