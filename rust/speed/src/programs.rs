@@ -56,8 +56,7 @@ const MIXED_SUBROUTINE: &[&str] =
     &["MVO@ R5,R6", "NEGR R1", "ADCR R1", "GSWD R3", "RSWD R3", "SUBR R1,R0", "RLC R1,2", "COMR R1", "MVI@ R6,R7"];
 
 /// The rows that shift through carry, by one and by two.
-const CARRY: &[&str] =
-    &["RLC R0", "RLC R1,2", "SLLC R2", "SLLC R3,2", "RRC R0", "RRC R1,2", "SARC R2", "SARC R3,2"];
+const CARRY: &[&str] = &["RLC R0", "RLC R1,2", "SLLC R2", "SLLC R3,2", "RRC R0", "RRC R1,2", "SARC R2", "SARC R3,2"];
 
 /// A whole memory with a program in it, and the words of a machine that starts on it.
 #[derive(Clone)]
