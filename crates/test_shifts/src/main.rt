@@ -1,10 +1,12 @@
 // Runs the rows of the shifts through carry as steps. Prints each row that fails, behind what differs, and last the counts. The rows stand
 // in the file `stdin`, whose head says how one is written; the script tests/shift-rows makes it.
 mod rows;
-mod verdict;
 
 use cpu::Lines;
+use cpu::StepAnswer;
+use harness::case;
 use harness::fields;
+use harness::machine;
 use harness::tally;
 use harness::tally::Tally;
 use harness::text;
@@ -23,22 +25,30 @@ fn quiet() -> Lines {
     }
 }
 
+// An instruction was executed, in so many cycles.
+fn agree_answer(given: StepAnswer, expected: u64) -> bool {
+    let StepAnswer::Executed { cycles } = given else {
+        return case::agree(b"the answer", false);
+    };
+    case::agree(b"the number of cycles", cycles == expected)
+}
+
 // Makes the step, and compares all that it leaves with what the row says.
 fn step_agrees(row: &[u8], opcode: u16) -> bool {
     let mut memory = [opcode];
     let stepped = cpu::step(rows::before(row), map::all_ram(), &mut memory, quiet());
     let left = stepped.state;
     let answer = stepped.answer;
-    verdict::agree_state(left, row)
-        & verdict::agree_answer(answer, fields::number(row, b"cycles", 0))
-        & verdict::agree(b"the memory", memory[0] == opcode)
+    machine::agree(left, rows::after(row))
+        & agree_answer(answer, fields::number(row, b"cycles", 0))
+        & case::agree(b"the memory", memory[0] == opcode)
 }
 
 // The opcode comes from the line, which ties it to the row's name.
 fn line_agrees(row: &[u8]) -> bool {
     let assembly = listing::assemble(fields::value(row, b"text"), false);
     let Assembly::One(opcode) = assembly else {
-        return verdict::malformed();
+        return case::malformed();
     };
     step_agrees(row, opcode)
 }
@@ -47,7 +57,7 @@ fn is_well(row: &[u8]) -> bool {
     if rows::is_formed(row) {
         line_agrees(fields::body(row))
     } else {
-        verdict::malformed()
+        case::malformed()
     }
 }
 
@@ -79,7 +89,7 @@ fn main() {
     let length = io::read_full(STDIN_FILENO, &mut input);
     let tally = run_rows(&input[..length]);
     if length == INPUT_ROOM {
-        verdict::say(b"the input fills its room, and may be cut\n");
+        case::say(b"the input fills its room, and may be cut\n");
     }
     tally::summary(tally);
 }

@@ -50,11 +50,6 @@ fn bits(row: &[u8], key: &[u8]) -> u16 {
     word
 }
 
-// The word in the register that the line names.
-pub(crate) fn named(row: &[u8], registers: [u16; 8]) -> u16 {
-    registers[register(row)]
-}
-
 // R0 to R7, with a word in the register that the line names.
 fn registers(row: &[u8], key: &[u8], next: u16) -> [u16; 8] {
     let mut registers = [0x1010, 0x1111, 0x1212, 0x1313, 0x1414, 0x1515, 0x1616, next];

@@ -6,7 +6,9 @@ mod verdict;
 
 use crate::answer::Answer;
 use cpu::State;
+use harness::case;
 use harness::fields;
+use harness::machine;
 use harness::tally;
 use harness::tally::Tally;
 use harness::text;
@@ -77,7 +79,7 @@ fn call_agrees(
     let left = left_by(name, before, memory);
     let state = left.state;
     let given = left.answer;
-    verdict::agree_state(state, rows::state_after(before, after))
+    machine::agree(state, rows::state_after(before, after))
         & verdict::agree_answer(given, after)
         & verdict::agree_memory(memory, expected)
 }
@@ -92,10 +94,10 @@ fn sized_call_agrees(
 ) -> bool {
     let size = rows::size_of(before);
     if memory.len() < size {
-        return verdict::malformed();
+        return case::malformed();
     }
     if expected.len() < size {
-        return verdict::malformed();
+        return case::malformed();
     }
     call_agrees(
         name,
@@ -114,8 +116,8 @@ fn is_well(
     memory: &mut [u16],
     expected: &mut [u16],
 ) -> bool {
-    verdict::say(rows::name_of(name));
-    verdict::say(b": ");
+    case::say(rows::name_of(name));
+    case::say(b": ");
     if rows::are_case(name, before, after) {
         sized_call_agrees(
             name,
@@ -125,7 +127,7 @@ fn is_well(
             expected,
         )
     } else {
-        verdict::malformed()
+        case::malformed()
     }
 }
 
@@ -161,7 +163,7 @@ fn main() {
     let mut expected = [0u16; MEMORY_ROOM];
     let tally = run_cases(&input[..length], &mut memory, &mut expected);
     if length == INPUT_ROOM {
-        verdict::say(b"the input fills its room, and may be cut\n");
+        case::say(b"the input fills its room, and may be cut\n");
     }
     tally::summary(tally);
 }
