@@ -5,7 +5,7 @@ ghost use mathlib.Core.Bool.{false};
 ghost use lib.Dec.{eqb};
 use libc::STDOUT_FILENO;
 
-pub fn say(words: &[u8]) {
+fn say(words: &[u8]) {
     io::write_all(STDOUT_FILENO, words);
 }
 

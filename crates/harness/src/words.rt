@@ -1,7 +1,6 @@
 // Runs of words: filled, compared, and told by the fields of a row, as `0100=02E4,0005`.
 ghost use mathlib.Core.Path.{_≡_};
 ghost use mathlib.Core.Bool.{true};
-ghost use mathlib.Core.Logic.{_↔_};
 ghost use Prim.Native.Nat.{_*_};
 ghost use lib.ListN.{length, drop, set, replicate};
 ghost use Rattle.harness.specs.Text.{hexNumber};
@@ -23,7 +22,7 @@ pub fn fill(run: &mut [u16], word: u16)
 
 // Whether both runs have the same words.
 pub fn same(a: &[u16], b: &[u16]) -> bool
-    ensures { λ r. ⌜ (r ≡ true) ↔ now (a .entry) ≡ now (b .entry) ⌝ }
+    ensures { λ r. ⌜ (r ≡ true → now (a .entry) ≡ now (b .entry)) × (now (a .entry) ≡ now (b .entry) → r ≡ true) ⌝ }
 {
     if a.len() != b.len() {
         return false;

@@ -11,6 +11,7 @@ use harness::tally;
 use harness::tally::Tally;
 use harness::text;
 use libc::STDIN_FILENO;
+use libc::STDOUT_FILENO;
 use listing::Assembly;
 use memory::map;
 
@@ -89,7 +90,7 @@ fn main() {
     let length = io::read_full(STDIN_FILENO, &mut input);
     let tally = run_rows(&input[..length]);
     if length == INPUT_ROOM {
-        case::say(b"the input fills its room, and may be cut\n");
+        io::write_all(STDOUT_FILENO, b"the input fills its room, and may be cut\n");
     }
     tally::summary(tally);
 }

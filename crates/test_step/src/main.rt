@@ -116,8 +116,8 @@ fn is_well(
     memory: &mut [u16],
     expected: &mut [u16],
 ) -> bool {
-    case::say(rows::name_of(name));
-    case::say(b": ");
+    verdict::say(rows::name_of(name));
+    verdict::say(b": ");
     if rows::are_case(name, before, after) {
         sized_call_agrees(
             name,
@@ -163,7 +163,7 @@ fn main() {
     let mut expected = [0u16; MEMORY_ROOM];
     let tally = run_cases(&input[..length], &mut memory, &mut expected);
     if length == INPUT_ROOM {
-        case::say(b"the input fills its room, and may be cut\n");
+        verdict::say(b"the input fills its room, and may be cut\n");
     }
     tally::summary(tally);
 }

@@ -5,21 +5,25 @@ use crate::answer::Answer;
 use harness::case;
 use libc::STDOUT_FILENO;
 
+pub(crate) fn say(words: &[u8]) {
+    io::write_all(STDOUT_FILENO, words);
+}
+
 pub(crate) fn agree_answer(left: Answer, after: &[u8]) -> bool {
     if answer::is_told(after, left) {
         return true;
     }
-    case::say(b"the answer is ");
-    case::say(answer::name_of(&answer::NAMES, left.letter));
+    say(b"the answer is ");
+    say(answer::name_of(&answer::NAMES, left.letter));
     say_number(b" steps=", left.steps);
     say_number(b" cycles=", left.cycles);
     say_number(b" number=", left.number);
-    case::say(b", ");
+    say(b", ");
     false
 }
 
 fn say_number(name: &[u8], number: u64) {
-    case::say(name);
+    say(name);
     io::print_decimal(STDOUT_FILENO, number);
 }
 
@@ -44,8 +48,8 @@ pub(crate) fn agree_memory(memory: &[u16], expected: &[u16]) -> bool {
     if memory.len() <= at {
         return true;
     }
-    case::say(b"at ");
+    say(b"at ");
     io::print_hex(STDOUT_FILENO, at as u64, 4);
-    case::say(b" ");
+    say(b" ");
     case::agree_word(b"the word", word_of(memory, at), word_of(expected, at))
 }

@@ -29,7 +29,8 @@ pub record Form : Type 0 where
   pub o : Source
   pub sign : ℕ
 
--- "Left through carry: bit 15 to C, and by two bit 14 to O." "By-one forms keep O." Every other bit moves up.
+-- "Left through carry: bit 15 to C, and by two bit 14 to O." "By-one forms keep O." Every other bit moves up, and into bit 0, or bits 1 and 0,
+-- comes what is named.
 abbrev pub leftOnce : Source → Form
 leftOnce into0 = record { result = λ n. cond (eqb n 0) into0 (oldBit (n - 1)); c = oldBit 15; o = oldO; sign = 15 }
 
@@ -42,7 +43,8 @@ leftTwice into1 into0 =
       sign = 15;
     }
 
--- "Right through carry: bit 0 to C, and by two bit 1 to O." Every other bit moves down. "S is bit 7 for .. RRC, SARC."
+-- "Right through carry: bit 0 to C, and by two bit 1 to O." Every other bit moves down, and into bit 15, or bits 15 and 14, comes what is named.
+-- "S is bit 7 for .. RRC, SARC."
 abbrev pub rightOnce : Source → Form
 rightOnce into15 = record { result = λ n. cond (eqb n 15) into15 (oldBit (n + 1)); c = oldBit 0; o = oldO; sign = 7 }
 
@@ -94,7 +96,8 @@ pub record Gives (form : Form) (old new : Flagged) : Type 0 where
   pub sign : new .s ≡ bit (form .sign) (new .value)
   pub zero : new .z ≡ eqb (new .value) 0
 
--- "Show that this gives the row's result, C and O on every input": each of the eight, of every 16-bit word under all flags
+-- "Show that this gives the row's result, C and O on every input": each of the eight, of every 16-bit word under all flags. By its number `shiftOf`
+-- is the row, `rlcOnce` to `sarcTwice`.
 abbrev pub BitByBit : Type 0
 BitByBit = (row : CarryRow) (twice : Bool) (f : Flagged) → f .value < 65536 → Gives (formOf row twice) f (shiftOf (rowNumber row) twice f)
 
