@@ -4,6 +4,7 @@ pub mod ActionLaws
 pub mod RowMarks
 pub mod SoundLaws
 pub mod BranchLaws
+pub mod ShiftLaws
 pub mod LocalLaws
 pub mod AllRamLaws
 pub mod RegisterLaws

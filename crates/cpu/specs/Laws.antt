@@ -2,11 +2,12 @@
 use Prim.Native.Nat.{ℕ, _%_, _<_, _≤_}
 use mathlib.Core.Path.{_≡_}
 use mathlib.Core.Bool.{Bool, true, false, not, cond}
-use mathlib.Core.List.{List}
-use lib.Dec.{ltb}
+use mathlib.Core.List.{List, [], _∷_}
+use lib.Dec.{leb, ltb}
 use lib.ListN.{length}
 use Rattle.refusal.specs.Report.{refused, answered}
 use Rattle.word.specs.Word.{wrapAdd, signed}
+use Rattle.word.specs.ThroughCarry.{CarryRow, RLC, rowNumber, formOf, Gives}
 use Rattle.memory.specs.declared.Admission.the-variants.{Admitted}
 use Rattle.memory.specs.declared.map.Range.{Range}
 use Rattle.memory.specs.declared.map.Board.{Board}
@@ -15,7 +16,7 @@ use Rattle.memory.specs.Bus.{Bus, busOf, busOn, readOf, put, admissionOf}
 use Rattle.memory.specs.Near.{inFront, Near}
 use Rattle.memory.specs.Laws.{AgreeAt, BusWords, takesStore, OnBoard}
 use Rattle.decode.specs.declared.Instr.{Instr}
-use Rattle.decode.specs.declared.Instr.the-variants.{Register, Branch, Read}
+use Rattle.decode.specs.declared.Instr.the-variants.{Shift, Register, Branch, Read}
 use Rattle.decode.specs.declared.Decoded.the-variants.{Known}
 use Rattle.decode.specs.declared.rows.Row.{Row}
 use Rattle.decode.specs.Fields.{modeOf, branchTarget}
@@ -24,7 +25,7 @@ use Rattle.decode.specs.Reads.{decodingReads}
 use Rattle.decode.specs.Laws.{Begins}
 use Rattle.cpu.specs.declared.Lines.{Lines}
 use Rattle.cpu.specs.declared.Plan.the-variants.{Executing}
-use Rattle.cpu.specs.Machine.{Machine, register}
+use Rattle.cpu.specs.Machine.{Machine, register, beside}
 use Rattle.cpu.specs.Answer.{StepDone, done}
 use Rattle.cpu.specs.Branch.{isTaken}
 use Rattle.cpu.specs.Modes.{Fetch, fetchOf}
@@ -166,6 +167,30 @@ AfterCmp =
     let k : Machine = begun (rowOf (Read 13 s d) (m .switches .d)) (noted m l) in
     let f : Fetch = fetchOf (modeOf s) (m .switches .d) (register 7 m) k in
     OrderTells m b l next (register d (f .after)) (f .operand (executionWords (noted m l) b (Read 13 s d)))
+
+-- document 02, [6]: a step that makes one of the rows that shift through carry leaves in the register that d names, and in the flags, what the row's
+-- form gives of what stood there
+abbrev pub ShiftsBitByBit : Type 0
+ShiftsBitByBit =
+    (m : Machine) (b : Bus) (l : Lines) (row : CarryRow) (d : ℕ) →
+    Sound m →
+    Executes m b l (Shift (rowNumber row) d) →
+    let after : Machine = stepOf m b l .machine in
+    Gives (formOf row (leb 4 d)) (beside (register (d % 4) m) (m .flags)) (beside (register (d % 4) after) (after .flags))
+
+-- a machine of document 01's case, "RLC R0,2 of $8001, C 0, O 1", which makes the row, whatever the lines are
+abbrev pub shifting : Machine
+shifting =
+    record {
+      registers = 0x8001 ∷ 0 ∷ 0 ∷ 0 ∷ 0 ∷ 0 ∷ 0 ∷ 0 ∷ [];
+      flags = record { s = false; z = false; o = true; c = false };
+      switches = record { i = false; d = false };
+      running = record { halted = false; ready = false };
+      intrm = record { level = true; mark = false };
+    }
+
+abbrev pub ShiftsInstance : Type 0
+ShiftsInstance = (l : Lines) → Executes shifting (busOf (0x054 ∷ [])) l (Shift (rowNumber RLC) 4)
 
 -- what an instruction leaves beside its result is its row's: D, ready, halted; and one that is not interruptible goes on in line
 pub record ByItsRow (row : Row) (m after : Machine) : Type 0 where

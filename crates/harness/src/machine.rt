@@ -1,4 +1,4 @@
-// Two states of the processor compared, which prints the registers and the marks that differ.
+// Compares two states of the processor, and prints the registers and marks that differ.
 ghost use mathlib.Core.Path.{_≡_};
 ghost use mathlib.Core.Bool.{true};
 ghost use mathlib.Core.Logic.{_↔_};
@@ -7,7 +7,7 @@ use crate::words;
 use cpu::State;
 use cpu::Status;
 
-// Only prints: whether a register differs, `words::same` answers, whose contract says what it is.
+// Only prints. Whether a register differs is told by `words::same`, whose contract says so.
 fn say_registers(left: [u16; 8], expected: [u16; 8]) {
     for i in 0..8 {
         let name = [b'R', b'0' + i as u8];

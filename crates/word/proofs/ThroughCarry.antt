@@ -13,7 +13,7 @@ use Rattle.word.specs.Shifts.{withLowSign, rlcOnce, rlcTwice, sllcOnce, 
 use Rattle.word.specs.ThroughCarry.{Source, oldBit, oldC, oldO, nought, found, Form, leftOnce, leftTwice, rightOnce, rightTwice, CarryRow, RLC, SLLC, RRC, SARC, rowNumber, formOf, Gives, BitByBit, GivesOne, CarryInstances}
 use Rattle.word.proofs.Choice.{cond-either}
 use Rattle.word.proofs.WordLaws.{bit-low, shift-low}
-use Rattle.word.proofs.BitLaws.{digit, bit-digit, flag-bit, bit-above, bit-below, joined-high, joined-low, sumOf, sum-same, sum-of-bits}
+use Rattle.word.proofs.BitLaws.{bit-digit, flag-bit, bit-above, bit-below, joined-high, joined-low, sumOf, sum-same, sum-of-bits}
 
 -- two flags, one above the other
 abbrev pairOf : Bool → Bool → ℕ
@@ -125,5 +125,6 @@ carry-instances =
     record {
       left = λ s z new g. fixed _ _ g;
       right = λ s z new g. fixed _ _ g;
+      repeated = λ s z new g. fixed _ _ g;
       highest = λ row twice s z o c. bit-by-bit row twice _ (lit< tt);
     }

@@ -30,7 +30,7 @@ pub record Form : Type 0 where
   pub sign : ℕ
 
 -- "Left through carry: bit 15 to C, and by two bit 14 to O." "By-one forms keep O." Every other bit moves up, and into bit 0, or bits 1 and 0,
--- comes what is named.
+-- comes what is named. "S = bit 15, .. unless said otherwise."
 abbrev pub leftOnce : Source → Form
 leftOnce into0 = record { result = λ n. cond (eqb n 0) into0 (oldBit (n - 1)); c = oldBit 15; o = oldO; sign = 15 }
 
@@ -76,7 +76,7 @@ abbrev pub formOf : CarryRow → Bool → Form
 -- "RLC by one brings C into bit 0; by two C into bit 1, O into bit 0."
 formOf RLC false = leftOnce oldC
 formOf RLC true = leftTwice oldC oldO
--- SLLC: zeros come in
+-- SLLC: what comes in is source document 004's, "clearing bit 0", by two "clearing bits 0 and 1"
 formOf SLLC false = leftOnce nought
 formOf SLLC true = leftTwice nought nought
 -- "RRC by one brings C into bit 15; by two O into 15, C into 14."
@@ -86,8 +86,8 @@ formOf RRC true = rightTwice oldO oldC
 formOf SARC false = rightOnce (oldBit 15)
 formOf SARC true = rightTwice (oldBit 15) (oldBit 15)
 
--- what a form gives of a word and its flags: result bit n is what the form names for it, and so are C and O; S is a bit of the result, and Z
--- is that the result is zero
+-- what a form gives of a word and its flags: result bit n is what the form names for it, and so are C and O. "All set S Z": S is the bit of the
+-- result that the form names, and Z that the result is zero
 pub record Gives (form : Form) (old new : Flagged) : Type 0 where
   pub fits : new .value < 65536
   pub bits : (n : ℕ) → n < 16 → bit n (new .value) ≡ found old (form .result n)
@@ -96,8 +96,8 @@ pub record Gives (form : Form) (old new : Flagged) : Type 0 where
   pub sign : new .s ≡ bit (form .sign) (new .value)
   pub zero : new .z ≡ eqb (new .value) 0
 
--- "Show that this gives the row's result, C and O on every input": each of the eight, of every 16-bit word under all flags. By its number `shiftOf`
--- is the row, `rlcOnce` to `sarcTwice`.
+-- "Show that this gives the row's result, C and O on every input": each of the eight, of every 16-bit word under all flags. `shiftOf` of a
+-- row's number is that row's own definition, `rlcOnce` to `sarcTwice`.
 abbrev pub BitByBit : Type 0
 BitByBit = (row : CarryRow) (twice : Bool) (f : Flagged) → f .value < 65536 → Gives (formOf row twice) f (shiftOf (rowNumber row) twice f)
 
@@ -105,8 +105,8 @@ BitByBit = (row : CarryRow) (twice : Bool) (f : Flagged) → f .value < 65536 �
 abbrev pub GivesOne : Type 0
 GivesOne = (form : Form) (old x y : Flagged) → Gives form old x → Gives form old y → x ≡ y
 
--- Two letters, answered by their forms alone, whatever S and Z were: document 01's "RLC R0,2 of $8001, C 0, O 1: $0005, C 1, O 0", and RRC by two
--- of $0006, C 1, O 0. And the highest word meets the law's premise.
+-- The letters of docs/SHIFTS.md, answered by their forms alone, whatever S and Z were: document 01's "RLC R0,2 of $8001, C 0, O 1: $0005, C 1,
+-- O 0", RRC by two of $0007 and SARC by one of $8000. And the highest word meets the law's premise.
 pub record CarryInstances : Type 0 where
   pub left :
       (s z : Bool) (new : Flagged) →
@@ -114,8 +114,12 @@ pub record CarryInstances : Type 0 where
       new ≡ record { value = 0x0005; s = false; z = false; o = false; c = true }
   pub right :
       (s z : Bool) (new : Flagged) →
-      Gives (formOf RRC true) (record { value = 0x0006; s = s; z = z; o = false; c = true }) new →
-      new ≡ record { value = 0x4001; s = false; z = false; o = true; c = false }
+      Gives (formOf RRC true) (record { value = 0x0007; s = s; z = z; o = false; c = true }) new →
+      new ≡ record { value = 0x4001; s = false; z = false; o = true; c = true }
+  pub repeated :
+      (s z : Bool) (new : Flagged) →
+      Gives (formOf SARC false) (record { value = 0x8000; s = s; z = z; o = true; c = false }) new →
+      new ≡ record { value = 0xC000; s = false; z = false; o = true; c = false }
   pub highest :
       (row : CarryRow) (twice s z o c : Bool) →
       let f : Flagged = record { value = 0xFFFF; s = s; z = z; o = o; c = c } in
