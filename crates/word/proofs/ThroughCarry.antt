@@ -1,9 +1,12 @@
 -- The rows that shift through carry give what their forms name, bit by bit, and a form gives one result.
-use Prim.Native.Nat.{ℕ, _+_, _-_, _*_, _/_, _%_, _^_, _<_, _≤_}
+use Prim.Native.Nat.{ℕ, zero, suc, _+_, _-_, _*_, _/_, _%_, _^_, _<_, _≤_}
 use mathlib.Core.Path.{_≡_, refl, sym, ap, _∙_}
 use mathlib.Core.Bool.{Bool, true, false}
+use mathlib.Core.List.{[], _∷_}
+use native.Mathlib.Nat.{mod-mod}
 use native.Mathlib.Omega.{arith}
 use lib.Dec.{eqb, lit<}
+use lib.ListN.{getD}
 use lib.Pow.{shr-lt}
 use borrow.Author.Tests.{eqb-true, eqb-false}
 use Rattle.word.specs.declared.Flagged.{Flagged}
@@ -11,9 +14,11 @@ use Rattle.word.specs.Word.{bit, bitValue}
 use Rattle.word.specs.Flags.{withSign}
 use Rattle.word.specs.Shifts.{withLowSign, rlcOnce, rlcTwice, sllcOnce, sllcTwice, rrcOnce, rrcTwice, sarcOnce, sarcTwice, shiftOnce, shiftTwice, shiftOf}
 use Rattle.word.specs.ThroughCarry.{Source, oldBit, oldC, oldO, nought, found, Form, leftOnce, leftTwice, rightOnce, rightTwice, CarryRow, RLC, SLLC, RRC, SARC, rowNumber, formOf, Gives, BitByBit, GivesOne, CarryInstances}
+use Rattle.word.specs.declared.bits.Bits.{Bits}
+use Rattle.word.specs.inner.Bits.{wordOf, isOne}
 use Rattle.word.proofs.Choice.{cond-either}
 use Rattle.word.proofs.WordLaws.{bit-low, shift-low}
-use Rattle.word.proofs.BitLaws.{bit-digit, flag-bit, bit-above, bit-below, joined-high, joined-low, sumOf, sum-same, sum-of-bits}
+use Rattle.word.proofs.BitLaws.{digit, bit-digit, flag-bit, bit-above, bit-below, joined-high, joined-low, sumOf, sum-same, sum-of-bits}
 
 -- two flags, one above the other
 abbrev pairOf : Bool → Bool → ℕ
@@ -116,9 +121,56 @@ fixed form f {r} g =
 pub gives-one : GivesOne
 gives-one form f x y p q = fixed form f p ∙ sym (fixed form f q)
 
+-- what the code finds in place of a source: it has bits as numbers, of which each counts modulo 2
+abbrev numberOf : Flagged → Source → ℕ
+numberOf f (oldBit n) = digit (f .value) n
+numberOf f oldC = bitValue (f .c)
+numberOf f oldO = bitValue (f .o)
+numberOf f nought = 0
+
+flag-number : (b : Bool) → bitValue b % 2 ≡ bitValue b
+flag-number true = refl
+flag-number false = refl
+
+number-is : (f : Flagged) (s : Source) → numberOf f s % 2 ≡ bitValue (found f s)
+number-is f (oldBit n) = mod-mod (f .value / 2 ^ n) 2 ∙ sym (bit-digit n (f .value))
+number-is f oldC = flag-number (f .c)
+number-is f oldO = flag-number (f .o)
+number-is f nought = refl
+
+flag-is : (b : Bool) → eqb (bitValue b) 1 ≡ b
+flag-is true = refl
+flag-is false = refl
+
+is-one : (f : Flagged) (s : Source) → isOne (numberOf f s) ≡ found f s
+is-one f s = rw (number-is f s) (flag-is (found f s))
+
+-- the sum of n numbers, of which each counts modulo 2
+abbrev pub numberSum : (ℕ → ℕ) → ℕ → ℕ
+numberSum d zero = 0
+numberSum d (suc n) = d n % 2 * 2 ^ n + numberSum d n
+
+numbers-are : (d : ℕ → ℕ) (b : ℕ → Bool) (n : ℕ) → ((k : ℕ) → d k % 2 ≡ bitValue (b k)) → numberSum d n ≡ sumOf b n
+numbers-are d b zero h = refl
+numbers-are d b (suc n) h = rw (h n, numbers-are d b n h)
+
+-- the code's bits by their numbers, and its sum, which goes from the left
+abbrev bitAt : Bits → ℕ → ℕ
+bitAt b n = getD (b .bit0 ∷ b .bit1 ∷ b .bit2 ∷ b .bit3 ∷ b .bit4 ∷ b .bit5 ∷ b .bit6 ∷ b .bit7 ∷ b .bit8 ∷ b .bit9 ∷ b .bit10 ∷ b .bit11 ∷ b .bit12 ∷ b .bit13 ∷ b .bit14 ∷ b .bit15 ∷ []) n 0
+
+pub from-left : (b : Bits) → wordOf b ≡ numberSum (bitAt b) 16
+unfolding wordOf
+from-left b = omega arith
+
 -- what the code writes out, for each of the eight
-pub written : (row : CarryRow) (twice : Bool) (f : Flagged) → f .value < 65536 → {v : ℕ} → v ≡ named (formOf row twice) f → resultOf (formOf row twice) f v ≡ shiftOf (rowNumber row) twice f
-written row twice f h e = ap (resultOf (formOf row twice) f) e ∙ sym (fixed (formOf row twice) f (bit-by-bit row twice f h))
+abbrev pub writtenOf : Form → Flagged → ℕ → Flagged
+writtenOf form f v = record { value = v; s = bit (form .sign) v; z = eqb v 0; o = isOne (numberOf f (form .o)); c = isOne (numberOf f (form .c)) }
+
+pub written : (row : CarryRow) (twice : Bool) (f : Flagged) → f .value < 65536 → {v : ℕ} → v ≡ numberSum (λ n. numberOf f (formOf row twice .result n)) 16 → writtenOf (formOf row twice) f v ≡ shiftOf (rowNumber row) twice f
+written row twice f h {v} e =
+    let form : Form = formOf row twice in
+    let n : v ≡ named form f = e ∙ numbers-are _ (λ k. found f (form .result k)) 16 (λ k. number-is f (form .result k)) in
+    rw (is-one f (form .o), is-one f (form .c)) (ap (resultOf form f) n ∙ sym (fixed form f (bit-by-bit row twice f h)))
 
 pub carry-instances : CarryInstances
 carry-instances =

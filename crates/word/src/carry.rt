@@ -15,7 +15,7 @@ use crate::Flagged;
 use crate::bits;
 use crate::bits::Bits;
 
-const ZERO: bool = false;
+const ZERO: u16 = 0;
 
 // RLC by one, opcodes $050 to $053 for R0 to R3.
 pub(crate) fn rlc_once(f: Flagged) -> Flagged

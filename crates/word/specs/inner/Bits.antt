@@ -1,49 +1,55 @@
 -- A register's word as its 16 bits, with C and O beside them, and the word of 16 bits: what the code of the rows that shift through carry is
 -- written in.
-use Prim.Native.Nat.{ℕ, _+_, _*_}
+use Prim.Native.Nat.{ℕ, _+_, _*_, _/_, _%_}
+use mathlib.Core.Bool.{Bool}
+use lib.Dec.{eqb}
 use Rattle.word.specs.declared.Flagged.{Flagged}
 use Rattle.word.specs.declared.bits.Bits.{Bits}
-use Rattle.word.specs.Word.{bit, bitValue}
+use Rattle.word.specs.Word.{bitValue}
 
 unfoldable pub bitsOf : Flagged → Bits
 bitsOf f =
     record {
-      bit15 = bit 15 (f .value);
-      bit14 = bit 14 (f .value);
-      bit13 = bit 13 (f .value);
-      bit12 = bit 12 (f .value);
-      bit11 = bit 11 (f .value);
-      bit10 = bit 10 (f .value);
-      bit9 = bit 9 (f .value);
-      bit8 = bit 8 (f .value);
-      bit7 = bit 7 (f .value);
-      bit6 = bit 6 (f .value);
-      bit5 = bit 5 (f .value);
-      bit4 = bit 4 (f .value);
-      bit3 = bit 3 (f .value);
-      bit2 = bit 2 (f .value);
-      bit1 = bit 1 (f .value);
-      bit0 = bit 0 (f .value);
-      c = f .c;
-      o = f .o;
+      bit15 = f .value / 32768 % 2;
+      bit14 = f .value / 16384 % 2;
+      bit13 = f .value / 8192 % 2;
+      bit12 = f .value / 4096 % 2;
+      bit11 = f .value / 2048 % 2;
+      bit10 = f .value / 1024 % 2;
+      bit9 = f .value / 512 % 2;
+      bit8 = f .value / 256 % 2;
+      bit7 = f .value / 128 % 2;
+      bit6 = f .value / 64 % 2;
+      bit5 = f .value / 32 % 2;
+      bit4 = f .value / 16 % 2;
+      bit3 = f .value / 8 % 2;
+      bit2 = f .value / 4 % 2;
+      bit1 = f .value / 2 % 2;
+      bit0 = f .value / 1 % 2;
+      c = bitValue (f .c);
+      o = bitValue (f .o);
     }
 
 -- bit n counts 2 ^ n
 unfoldable pub wordOf : Bits → ℕ
 wordOf b =
-    bitValue (b .bit15) * 32768
-    + bitValue (b .bit14) * 16384
-    + bitValue (b .bit13) * 8192
-    + bitValue (b .bit12) * 4096
-    + bitValue (b .bit11) * 2048
-    + bitValue (b .bit10) * 1024
-    + bitValue (b .bit9) * 512
-    + bitValue (b .bit8) * 256
-    + bitValue (b .bit7) * 128
-    + bitValue (b .bit6) * 64
-    + bitValue (b .bit5) * 32
-    + bitValue (b .bit4) * 16
-    + bitValue (b .bit3) * 8
-    + bitValue (b .bit2) * 4
-    + bitValue (b .bit1) * 2
-    + bitValue (b .bit0)
+    b .bit15 % 2 * 32768
+    + b .bit14 % 2 * 16384
+    + b .bit13 % 2 * 8192
+    + b .bit12 % 2 * 4096
+    + b .bit11 % 2 * 2048
+    + b .bit10 % 2 * 1024
+    + b .bit9 % 2 * 512
+    + b .bit8 % 2 * 256
+    + b .bit7 % 2 * 128
+    + b .bit6 % 2 * 64
+    + b .bit5 % 2 * 32
+    + b .bit4 % 2 * 16
+    + b .bit3 % 2 * 8
+    + b .bit2 % 2 * 4
+    + b .bit1 % 2 * 2
+    + b .bit0 % 2
+
+-- whether a number counts as 1
+abbrev pub isOne : ℕ → Bool
+isOne n = eqb (n % 2) 1

@@ -1,19 +1,18 @@
 use mathlib.Core.Bool.{false}
-use native.Mathlib.Omega.{arith}
 use Rattle.word.specs.Flags.{withSign}
 use Rattle.word.specs.Shifts.{sllcOnce, shiftOnce, shiftOf}
 use Rattle.word.specs.ThroughCarry.{SLLC}
-use Rattle.word.specs.inner.Bits.{bitsOf, wordOf}
-use Rattle.word.proofs.ThroughCarry.{written}
+use Rattle.word.specs.inner.Bits.{bitsOf}
+use Rattle.word.proofs.ThroughCarry.{from-left, written}
 use borrow.Author.Needs.{needs}
 use Rattle.word.proofs.carry.sllc_once.Statement.{statement}
 use Rattle.word.proofs.carry.sllc_once.Tie as tie
 
 returns : tie.Need-returns
-unfolding sllcOnce shiftOnce shiftOf withSign bitsOf wordOf
+unfolding sllcOnce shiftOnce shiftOf withSign bitsOf
 returns c =
     rw (c .with-sign .ensures, c .before .taken-apart .ensures)
-    (written SLLC false (c .before .before .args .f) (search needs) (omega arith))
+    (written SLLC false (c .before .before .args .f) (search needs) (from-left _))
 
 pub sllc-once-spec : {M : Type 1} → statement M
 sllc-once-spec = tie.close (tie.spec (λ c κs. search needs) (λ c κs. search needs) returns)
