@@ -1,6 +1,6 @@
 -- The rows that shift through carry give what their forms name, bit by bit, and a form gives one result.
 use Prim.Native.Nat.{ℕ, zero, suc, _+_, _-_, _*_, _/_, _%_, _^_, _<_, _≤_}
-use mathlib.Core.Path.{_≡_, refl, sym, ap, _∙_}
+use mathlib.Core.Path.{_≡_, refl, sym, ap, ap₂, _∙_}
 use mathlib.Core.Bool.{Bool, true, false}
 use mathlib.Core.List.{[], _∷_}
 use native.Mathlib.Nat.{mod-mod}
@@ -145,32 +145,46 @@ flag-is false = refl
 is-one : (f : Flagged) (s : Source) → isOne (numberOf f s) ≡ found f s
 is-one f s = rw (number-is f s) (flag-is (found f s))
 
--- the sum of n numbers, of which each counts modulo 2
-abbrev pub numberSum : (ℕ → ℕ) → ℕ → ℕ
-numberSum d zero = 0
-numberSum d (suc n) = d n % 2 * 2 ^ n + numberSum d n
-
-numbers-are : (d : ℕ → ℕ) (b : ℕ → Bool) (n : ℕ) → ((k : ℕ) → d k % 2 ≡ bitValue (b k)) → numberSum d n ≡ sumOf b n
-numbers-are d b zero h = refl
-numbers-are d b (suc n) h = rw (h n, numbers-are d b n h)
-
--- the code's bits by their numbers, and its sum, which goes from the left
+-- the code's bits by their numbers
 abbrev bitAt : Bits → ℕ → ℕ
 bitAt b n = getD (b .bit0 ∷ b .bit1 ∷ b .bit2 ∷ b .bit3 ∷ b .bit4 ∷ b .bit5 ∷ b .bit6 ∷ b .bit7 ∷ b .bit8 ∷ b .bit9 ∷ b .bit10 ∷ b .bit11 ∷ b .bit12 ∷ b .bit13 ∷ b .bit14 ∷ b .bit15 ∷ []) n 0
 
-pub from-left : (b : Bits) → wordOf b ≡ numberSum (bitAt b) 16
+-- the sum of n numbers, of which each counts modulo 2
+abbrev numberSum : (ℕ → ℕ) → ℕ → ℕ
+numberSum d zero = 0
+numberSum d (suc n) = d n % 2 * 2 ^ n + numberSum d n
+
+from-left : (b : Bits) → wordOf b ≡ numberSum (bitAt b) 16
 unfolding wordOf
 from-left b = omega arith
 
--- what the code writes out, for each of the eight
-abbrev pub writtenOf : Form → Flagged → ℕ → Flagged
-writtenOf form f v = record { value = v; s = bit (form .sign) v; z = eqb v 0; o = isOne (numberOf f (form .o)); c = isOne (numberOf f (form .c)) }
+-- the numbers below n are these sources, from the highest on
+abbrev pub Takes : (ℕ → ℕ) → Flagged → (ℕ → Source) → ℕ → Type 0
+Takes d f r zero = Unit {0}
+Takes d f r (suc n) = (d n ≡ numberOf f (r n)) × Takes d f r n
 
-pub written : (row : CarryRow) (twice : Bool) (f : Flagged) → f .value < 65536 → {v : ℕ} → v ≡ numberSum (λ n. numberOf f (formOf row twice .result n)) 16 → writtenOf (formOf row twice) f v ≡ shiftOf (rowNumber row) twice f
-written row twice f h {v} e =
+sum-of : (d : ℕ → ℕ) (f : Flagged) (r : ℕ → Source) (n : ℕ) → Takes d f r n → numberSum d n ≡ sumOf (λ k. found f (r k)) n
+sum-of d f r zero h = refl
+sum-of d f r (suc n) h = rw (h .0, number-is f (r n), sum-of d f r n (h .1))
+
+-- What the code writes out, for each of the eight: its lines, one by one, and those of O and C.
+abbrev pub writtenOf : Form → Bits → Flagged
+writtenOf form b = record { value = wordOf b; s = bit (form .sign) (wordOf b); z = eqb (wordOf b) 0; o = isOne (b .o); c = isOne (b .c) }
+
+pub written :
+    (row : CarryRow) (twice : Bool) (f : Flagged) → f .value < 65536 → {b : Bits} →
+    Takes (bitAt b) f (formOf row twice .result) 16 →
+    b .c ≡ numberOf f (formOf row twice .c) →
+    b .o ≡ numberOf f (formOf row twice .o) →
+    writtenOf (formOf row twice) b ≡ shiftOf (rowNumber row) twice f
+written row twice f h {b} takes c o =
     let form : Form = formOf row twice in
-    let n : v ≡ named form f = e ∙ numbers-are _ (λ k. found f (form .result k)) 16 (λ k. number-is f (form .result k)) in
-    rw (is-one f (form .o), is-one f (form .c)) (ap (resultOf form f) n ∙ sym (fixed form f (bit-by-bit row twice f h)))
+    let n : wordOf b ≡ named form f = from-left b ∙ sum-of (bitAt b) f (form .result) 16 takes in
+    ap₂ (λ (p q : Bool). record { value = wordOf b; s = bit (form .sign) (wordOf b); z = eqb (wordOf b) 0; o = p; c = q })
+    (ap isOne o ∙ is-one f (form .o))
+    (ap isOne c ∙ is-one f (form .c))
+    ∙ ap (resultOf form f) n
+    ∙ sym (fixed form f (bit-by-bit row twice f h))
 
 pub carry-instances : CarryInstances
 carry-instances =

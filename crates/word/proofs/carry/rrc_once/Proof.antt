@@ -1,8 +1,9 @@
+use mathlib.Core.Path.{refl}
 use mathlib.Core.Bool.{false}
 use Rattle.word.specs.Shifts.{withLowSign, rrcOnce, shiftOnce, shiftOf}
 use Rattle.word.specs.ThroughCarry.{RRC}
 use Rattle.word.specs.inner.Bits.{bitsOf}
-use Rattle.word.proofs.ThroughCarry.{from-left, written}
+use Rattle.word.proofs.ThroughCarry.{written}
 use borrow.Author.Needs.{needs}
 use Rattle.word.proofs.carry.rrc_once.Statement.{statement}
 use Rattle.word.proofs.carry.rrc_once.Tie as tie
@@ -11,7 +12,7 @@ returns : tie.Need-returns
 unfolding rrcOnce shiftOnce shiftOf withLowSign bitsOf
 returns c =
     rw (c .with-low-sign .ensures, c .before .taken-apart .ensures)
-    (written RRC false (c .before .before .args .f) (search needs) (from-left _))
+    (written RRC false (c .before .before .args .f) (search needs) (refl, (refl, (refl, (refl, (refl, (refl, (refl, (refl, (refl, (refl, (refl, (refl, (refl, (refl, (refl, (refl, tt)))))))))))))))) refl refl)
 
 pub rrc-once-spec : {M : Type 1} → statement M
 rrc-once-spec = tie.close (tie.spec (λ c κs. search needs) (λ c κs. search needs) returns)
