@@ -1,13 +1,13 @@
--- Document 01, "Image records": "`ID` board; any number of `AT` address, count 1 to 1,024, words; `OK` sum; end."
+-- Document 01, "Image records": "`ID` board; any number of `AT` address, count 1 to 4,096, words; `OK` sum; end."
 use Prim.Native.Nat.{ℕ, _+_, _*_, _%_}
 use mathlib.Core.List.{List, [], _∷_, _++_}
 use lib.ListN.{length, drop}
 use Rattle.bigendian.specs.Numbers.{wordsOf, bytesOf}
 use Rattle.records.specs.Records.{Record, recordOver}
 
--- "count 1 to 1,024". Each definition of a file takes the limit as an argument; this is the one of the loader and the writer.
+-- "count 1 to 4,096". Each definition of a file takes the limit as an argument; this is the one of the loader and the writer.
 abbrev pub recordLimit : ℕ
-recordLimit = 1024
+recordLimit = 4096
 
 -- "Two-byte mark first": the letters of `ID`, `AT` and `OK`
 abbrev pub idMark : ℕ

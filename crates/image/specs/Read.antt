@@ -1,5 +1,5 @@
 -- A file read in its own order: the head, then records up to the tail, or the first offence.
--- "9: missing or wrong mark, cut file, count 0 or above 1,024, bytes after OK"; "11: record .. past the lent memory".
+-- "9: missing or wrong mark, cut file, count 0 or above 4,096, bytes after OK"; "11: record .. past the lent memory".
 use Prim.Native.Nat.{ℕ, zero, suc, _≤_}
 use mathlib.Core.Path.{_≡_}
 use mathlib.Core.Bool.{cond}
@@ -31,7 +31,7 @@ pub data Part : Type 0 where
   tailPart : ℕ → Part
   offencePart : Refusal → Part
 
--- "`AT` address, count 1 to 1,024, words": "count before cut words before 11". The largest count and the memory's length are arguments.
+-- "`AT` address, count 1 to 4,096, words": "count before cut words before 11". The largest count and the memory's length are arguments.
 unfoldable pub placeOf : ℕ → ℕ → List ℕ → ℕ → ℕ → Part
 placeOf limit len bytes address count =
     cond (eqb count 0) (offencePart MalformedImage)

@@ -1,4 +1,4 @@
--- The writer: "The writer covers a region with full records of 1,024, the last perhaps shorter", refused by 1, 7, 11 and 13 in this order.
+-- The writer: "The writer covers a region with full records of 4,096, the last perhaps shorter", refused by 1, 7, 11 and 13 in this order.
 use Prim.Native.Nat.{ℕ, _+_, _*_}
 use mathlib.Core.Bool.{cond}
 use mathlib.Core.List.{List}
@@ -44,7 +44,7 @@ unfoldable pub writeWith : ImageHead → ℕ → List ℕ → ℕ → ℕ → Li
 writeWith head limit m first last room =
     unlessBarred (regionAdmission m first last) (refuseWrite room) (writing room (regionImage head limit m first last))
 
--- document 01's own: "`ID` board", "full records of 1,024"
+-- document 01's own: "`ID` board", "full records of 4,096"
 abbrev pub writeOf : ℕ → List ℕ → ℕ → ℕ → List ℕ → Writing
 writeOf board m first last room = writeWith (idHead board) recordLimit m first last room
 

@@ -6,7 +6,7 @@ ghost use Rattle.records.specs.Records.{recordOver};
 ghost use Rattle.image.specs.Format.{recordLimit, total, recordSum};
 
 // No record has more words. The writer cuts a region into records of so many.
-pub(crate) const RECORD_LIMIT: usize = 1024;
+pub(crate) const RECORD_LIMIT: usize = 4096;
 
 // The letters of each mark as one number.
 pub(crate) const ID_MARK: u16 = 0x4944;
