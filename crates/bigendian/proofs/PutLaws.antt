@@ -1,5 +1,5 @@
 -- Laws of numbers put into a room, and of the loop that puts them.
-use Prim.Native.Nat.{ℕ, min, _+_, _-_, _*_, _<_, _≤_}
+use Prim.Native.Nat.{ℕ, min, _+_, _-_, _*_, _/_, _%_, _<_, _≤_}
 use mathlib.Core.Path.{_≡_, refl, sym, ap, _∙_}
 use mathlib.Core.List.{List, [], _∷_, _++_, append-nil, append-assoc}
 use native.Mathlib.Omega.{arith}
@@ -8,9 +8,18 @@ use native.Mathlib.Decide.{decLe}
 use borrow.Rule.Slice.PartMut.{putMid, post-is}
 use lib.ListN.{length, getD, take, length-take, drop-of-length-le}
 use lib.Seq.{take-suc, take-all, take-append-le, take-append-add, sets, sets-eq, length-sets}
-use Rattle.bigendian.specs.Numbers.{bytesOf, fitting, putWords}
+use Rattle.word.specs.Word.{wrapAdd}
+use Rattle.bigendian.specs.Numbers.{bytesOf, total, fitting, putWords}
 use Rattle.word.proofs.SetsLaws.{sets-split}
 use Rattle.bigendian.proofs.NumberLaws.{bytes-length, bytes-append, put-fits}
+use Rattle.bigendian.proofs.SumLaws.{total-step}
+
+-- the bytes of a number, low byte first, are those of the exchanged number
+pub exchanged-bytes : (w e : ℕ) → w < 65536 → e ≡ w % 256 * 256 + w / 256 → e % 256 ∷ e / 256 ∷ [] ≡ bytesOf (w ∷ [])
+exchanged-bytes w e h f =
+    let high : e % 256 ≡ w / 256 = omega arith in
+    let low : e / 256 ≡ w % 256 = omega arith in
+    rw (high, low)
 
 -- numbers, and then others behind their bytes
 pub put-more : (d : List ℕ) (at : ℕ) (xs ys : List ℕ)
@@ -53,36 +62,43 @@ part-put d a e ws span h =
     let s = rw (l, append-assoc) at (sets-eq (bytesOf ws) d a (omega arith)) in
     rw (post-is a e d (omega arith), span) (sym s ∙ sym (put-fits d a ws (omega arith)))
 
--- The first i numbers of a list, as bytes from an index on; n of them are to be put.
-pub record Putting (d₀ : List ℕ) (at : ℕ) (ws d : List ℕ) (n i : ℕ) : Type 0 where
+-- The first i numbers of a list are put as bytes from an index on, and added up; n of them are to be put.
+pub record Putting (d₀ : List ℕ) (at : ℕ) (ws d : List ℕ) (n sum i : ℕ) : Type 0 where
   pub within : i ≤ n
   pub laid : d ≡ sets d₀ at (bytesOf (take i ws))
+  pub sums : sum ≡ total (take i ws) % 65536
 
-pub putting : (d : List ℕ) (at : ℕ) (ws : List ℕ) (n : ℕ) → Putting d at ws d n 0
-putting d at ws n = record { within = omega arith; laid = refl }
+pub putting : (d : List ℕ) (at : ℕ) (ws : List ℕ) (n : ℕ) → Putting d at ws d n 0 0
+putting d at ws n = record { within = omega arith; laid = refl; sums = refl }
 
-module _ {d₀ : List ℕ} {at : ℕ} {ws d : List ℕ} {n i : ℕ} where
-  pub putting-length : Putting d₀ at ws d n i → length d ≡ length d₀
+module _ {d₀ : List ℕ} {at : ℕ} {ws d : List ℕ} {n sum i : ℕ} where
+  pub putting-length : Putting d₀ at ws d n sum i → length d ≡ length d₀
   putting-length k = ap length (k .laid) ∙ length-sets d₀ at (bytesOf (take i ws))
 
-  pub putting-on : {d′ : List ℕ} → Putting d₀ at ws d n i → i < n → n ≤ length ws
-      → d′ ≡ sets d (at + i * 2) (bytesOf (getD ws i 0 ∷ [])) → Putting d₀ at ws d′ n (i + 1)
-  putting-on k h l e =
+  pub putting-on : {d′ : List ℕ} {next : ℕ} → Putting d₀ at ws d n sum i → i < n → n ≤ length ws
+      → d′ ≡ sets d (at + i * 2) (bytesOf (getD ws i 0 ∷ [])) → next ≡ wrapAdd sum (getD ws i 0) → Putting d₀ at ws d′ n next (i + 1)
+  unfolding wrapAdd
+  putting-on k h l e f =
       let m : i < length ws = omega arith in
       let s : length (take i ws) ≡ i = omega (arith, length-take i ws) in
       record {
         within = omega arith;
         laid = e ∙ rw (add-one, take-suc ws i 0, put-more d₀ at (take i ws) (getD ws i 0 ∷ []), s, k .laid);
+        sums = omega (arith, k .sums, total-step ws i m);
       }
 
   -- after the last turn those that fit are put
-  pub putting-end : Putting d₀ at ws d n i → n ≤ i → n ≡ min (fitting (length d₀) at) (length ws) → d ≡ putWords d₀ at ws
-  unfolding putWords
-  putting-end k h e = k .laid ∙ ap (λ (l : List ℕ). sets d₀ at (bytesOf l)) (go (decLe (length ws) (fitting (length d₀) at)))
+  fitted : Putting d₀ at ws d n sum i → n ≤ i → n ≡ min (fitting (length d₀) at) (length ws) → take i ws ≡ take (fitting (length d₀) at) ws
+  fitted k h e = go (decLe (length ws) (fitting (length d₀) at))
     where
       go : Dec (length ws ≤ fitting (length d₀) at) → take i ws ≡ take (fitting (length d₀) at) ws
       go (yes l) = take-all i ws (omega (arith, k .within)) ∙ sym (take-all (fitting (length d₀) at) ws l)
       go (no l) = let m : i ≡ fitting (length d₀) at = omega (arith, k .within) in rw m
+
+  pub putting-end : Putting d₀ at ws d n sum i → n ≤ i → n ≡ min (fitting (length d₀) at) (length ws)
+      → (d ≡ putWords d₀ at ws) × (sum ≡ total (take (fitting (length d₀) at) ws) % 65536)
+  unfolding putWords
+  putting-end k h e = let f = fitted k h e in (rw f at (k .laid), rw f at (k .sums))
 
 -- one number, of which both bytes fit or none is put
 pub one-put : (d : List ℕ) (at w n : ℕ) → n ≡ fitting (length d) at → 0 < n → sets d at (bytesOf (w ∷ [])) ≡ putWords d at (w ∷ [])

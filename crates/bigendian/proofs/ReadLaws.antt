@@ -1,60 +1,38 @@
--- The two loops that read numbers, and what each turn of them does.
-use Prim.Native.Nat.{ℕ, suc, min, _+_, _-_, _*_, _/_, _<_, _≤_}
-use mathlib.Core.Path.{_≡_, refl, sym, ap, _∙_}
-use mathlib.Core.List.{List, _++_, map, map-append, append-nil, append-assoc}
+-- The loop that reads numbers, and what each turn of it does.
+use Prim.Native.Nat.{ℕ, min, _+_, _-_, _*_, _/_, _<_, _≤_}
+use mathlib.Core.Path.{_≡_, sym, ap, _∙_}
+use mathlib.Core.List.{List, append-assoc}
 use native.Mathlib.Omega.{arith}
 use native.Mathlib.Numerals.{add-one}
 use native.Mathlib.Decide.{decLe}
 use borrow.Rule.Slice.PartMut.{midOf, putMid, mid-len, post-is}
-use lib.ListN.{length, getD, take, drop, set, length-set, drop-of-length-le}
-use lib.Seq.{take-suc, take-suc-set, take-all, drop-cons, drop-set-lt, append-snoc, sets, sets-eq}
+use lib.ListN.{length, take, set, length-set}
+use lib.Seq.{take-suc, take-suc-set, take-all, sets, sets-eq}
 use Rattle.bigendian.specs.Numbers.{wordAt, wordsOf, allWords}
 use Rattle.bigendian.proofs.NumberLaws.{words-at, words-length, words-first}
 use Rattle.word.proofs.SetsLaws.{sets-past, sets-within}
 
--- n words are read from bytes in two loops. After i turns of the first, f makes the first i words of what stands in d.
-pub record Copying (f : ℕ → ℕ) (n : ℕ) (bytes d : List ℕ) (i : ℕ) : Type 0 where
+-- n words are read from bytes: the first i of them stand in d.
+pub record Filling (n : ℕ) (bytes d : List ℕ) (i : ℕ) : Type 0 where
   pub size : length d ≡ n
   pub within : i ≤ n
-  pub copied : map f (take i d) ≡ take i (wordsOf n bytes)
+  pub filled : take i d ≡ take i (wordsOf n bytes)
 
--- After i turns of the second, the first i words stand in d, and f makes the others of what stands behind them.
-pub record Exchanging (f : ℕ → ℕ) (n : ℕ) (bytes d : List ℕ) (i : ℕ) : Type 0 where
-  pub size : length d ≡ n
-  pub within : i ≤ n
-  pub exchanged : take i d ++ map f (drop i d) ≡ wordsOf n bytes
-
-module _ {f : ℕ → ℕ} {n : ℕ} {bytes d : List ℕ} {i : ℕ} where
-  pub copying-on : {v : ℕ} → Copying f n bytes d i → i < length d → f v ≡ wordAt bytes (i * 2) → Copying f n bytes (set d i v) (i + 1)
-  copying-on {v} k h e =
+module _ {n : ℕ} {bytes d : List ℕ} {i : ℕ} where
+  pub filling-on : {v : ℕ} → Filling n bytes d i → i < length d → v ≡ wordAt bytes (i * 2) → Filling n bytes (set d i v) (i + 1)
+  filling-on {v} k h e =
       let z = k .size in
       let l : i < length (wordsOf n bytes) = omega (arith, words-length n bytes) in
       record {
         size = length-set d i v ∙ z;
         within = omega arith;
-        copied = rw (add-one, take-suc-set d i v, map-append, take-suc (wordsOf n bytes) i 0, k .copied, words-at n bytes i (omega arith), e);
+        filled = rw (add-one, take-suc-set d i v, take-suc (wordsOf n bytes) i 0, k .filled, words-at n bytes i (omega arith), e);
       }
 
-  pub copying-end : Copying f n bytes d i → length d ≤ i → Exchanging f (length d) bytes d 0
-  copying-end k h =
-      let z = k .size in
-      let l : length (wordsOf n bytes) ≤ i = omega (arith, words-length n bytes) in
-      record {
-        size = refl;
-        within = omega arith;
-        exchanged = rw z (rw (take-all i d h, take-all i (wordsOf n bytes) l) at (k .copied));
-      }
-
-  pub exchanging-on : {v : ℕ} → Exchanging f n bytes d i → i < length d → v ≡ f (getD d i 0) → Exchanging f n bytes (set d i v) (i + 1)
-  exchanging-on {v} k h e =
-      record {
-        size = length-set d i v ∙ k .size;
-        within = omega (arith, k .size);
-        exchanged = rw (add-one, take-suc-set d i v, drop-set-lt (suc i) d i v (omega arith), append-snoc, e) (rw (drop-cons d i 0) at (k .exchanged));
-      }
-
-  pub exchanging-end : Exchanging f n bytes d i → length d ≤ i → d ≡ wordsOf n bytes
-  exchanging-end k h = rw (take-all i d h, drop-of-length-le d h, append-nil) at (k .exchanged)
+  pub filling-end : Filling n bytes d i → length d ≤ i → d ≡ wordsOf n bytes
+  filling-end k h =
+      let l : length (wordsOf n bytes) ≤ i = omega (arith, words-length n bytes, k .size) in
+      rw (take-all i d h, take-all i (wordsOf n bytes) l) at (k .filled)
 
 -- The numbers of bytes are read into the part of d from a to e, which comes back as ys: a is the place where they are to go, or the end.
 module _ (d : List ℕ) (at a e n : ℕ) (bytes : List ℕ) {ys : List ℕ} (start : a ≡ min at (length d)) (span : e ≡ a + n) (count : n ≡ min (length bytes / 2) (length d - a))

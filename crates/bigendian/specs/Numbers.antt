@@ -22,6 +22,11 @@ abbrev pub bytesOf : List ℕ → List ℕ
 bytesOf [] = []
 bytesOf (w ∷ ws) = w / 256 ∷ w % 256 ∷ bytesOf ws
 
+-- numbers added up
+abbrev pub total : List ℕ → ℕ
+total [] = 0
+total (w ∷ ws) = w + total ws
+
 -- how many whole numbers a room of `size` bytes has from byte `at` on
 abbrev pub fitting : ℕ → ℕ → ℕ
 fitting size at = (size - at) / 2

@@ -2,9 +2,9 @@
 ghost use mathlib.Core.Path.{_≡_};
 ghost use mathlib.Core.List.{[], _∷_};
 ghost use Prim.Native.Nat.{min, _+_, _-_, _*_, _/_, _%_, _<_, _≤_};
-ghost use lib.ListN.{length, getD};
+ghost use lib.ListN.{length, getD, take};
 ghost use lib.Seq.{sets};
-ghost use Rattle.bigendian.specs.Numbers.{wordAt, wordsOf, allWords, bytesOf, fitting, putWords};
+ghost use Rattle.bigendian.specs.Numbers.{wordAt, wordsOf, allWords, bytesOf, total, fitting, putWords};
 
 fn wide(byte: u8) -> u16
     ensures { λ r. ⌜ (r ≡ byte) × (r < 256) ⌝ }
@@ -38,13 +38,28 @@ fn fitting_words(size: usize, at: usize) -> usize
     if size <= at { 0 } else { (size - at) / 2 }
 }
 
-// A number in two bytes of a room.
+// A number with its two bytes exchanged.
+fn exchanged(word: u16) -> u16
+    ensures { λ r. ⌜ r ≡ word % 256 * 256 + word / 256 ⌝ }
+{
+    word % 256 * 256 + word / 256
+}
+
+// A number in two bytes of a room, the low byte first.
+fn put_low_first(room: &mut [u8], at: usize, word: u16)
+    requires { ⌜ at + 2 ≤ length (now room) ⌝ }
+    ensures { λ r. ⌜ now (room .exit) ≡ sets (now (room .entry)) at (word % 256 ∷ word / 256 ∷ []) ⌝ }
+{
+    room[at] = (word % 256) as u8;
+    room[at + 1] = (word / 256) as u8;
+}
+
+// A number in two bytes of a room. The compiler makes one store of two bytes only where the low one comes first, so they are exchanged.
 fn put_pair(room: &mut [u8], at: usize, word: u16)
     requires { ⌜ at + 2 ≤ length (now room) ⌝ }
     ensures { λ r. ⌜ now (room .exit) ≡ sets (now (room .entry)) at (bytesOf (word ∷ [])) ⌝ }
 {
-    room[at] = (word / 256) as u8;
-    room[at + 1] = (word % 256) as u8;
+    put_low_first(room, at, exchanged(word));
 }
 
 // A number put at a place, if the room has both its bytes.
@@ -62,51 +77,43 @@ fn smaller(a: usize, b: usize) -> usize
     if a < b { a } else { b }
 }
 
-// Numbers put from a place on, one behind the other, as many as the room has.
-pub fn put_words(room: &mut [u8], at: usize, words: &[u16])
-    ensures { λ r. ⌜ now (room .exit) ≡ putWords (now (room .entry)) at (now (words .entry)) ⌝ }
+// Numbers put from a place on, one behind the other, as many as the room has. Answers the sum of those that were put, so that a writer
+// reads each of them once.
+pub fn put_words(room: &mut [u8], at: usize, words: &[u16]) -> u16
+    ensures { λ r. ⌜ (now (room .exit) ≡ putWords (now (room .entry)) at (now (words .entry)))
+        × (r ≡ total (take (fitting (length (now (room .entry))) at) (now (words .entry))) % 65536) ⌝ }
 {
     let count = smaller(fitting_words(room.len(), at), words.len());
+    let mut sum: u16 = 0;
     let mut i = 0;
     while i < count {
         put_pair(room, at + i * 2, words[i]);
+        sum = word::wrapping_add(sum, words[i]);
         i += 1;
     }
+    sum
 }
 
-// A number with its two bytes exchanged.
-fn exchanged(word: u16) -> u16
-    ensures { λ r. ⌜ r ≡ word % 256 * 256 + word / 256 ⌝ }
-{
-    word % 256 * 256 + word / 256
-}
-
-// The number at a place, with its two bytes exchanged: as if the low byte came first.
-fn exchanged_at(bytes: &[u8], at: usize) -> u16
+// The number at a place, if its low byte came first. The compiler makes one load of its two bytes, and of `word_at` in a loop two.
+fn low_first_at(bytes: &[u8], at: usize) -> u16
     requires { ⌜ at + 1 < length (now bytes) ⌝ }
-    ensures { λ r. ⌜ r % 256 * 256 + r / 256 ≡ wordAt (now (bytes .entry)) at ⌝ }
+    ensures { λ r. ⌜ (r ≡ getD (now (bytes .entry)) at 0 + getD (now (bytes .entry)) (at + 1) 0 * 256)
+        × (r % 256 * 256 + r / 256 ≡ wordAt (now (bytes .entry)) at) ⌝ }
 {
-    let high = wide(bytes[at]);
-    let low = wide(bytes[at + 1]);
-    low * 256 + high
+    let first = wide(bytes[at]);
+    let second = wide(bytes[at + 1]);
+    second * 256 + first
 }
 
-// The numbers at the front of the bytes, as many as there is room for. Two loops, because the compiler makes a plain copy of the first
-// and short vector code of the second; of one loop over `word_at` it makes vectors that it puts together byte by byte, and a word takes
-// the loader 11 machine instructions in place of 3.
+// The numbers at the front of the bytes, as many as there is room for.
 fn fill_words(bytes: &[u8], words: &mut [u16])
     requires { ⌜ length (now words) * 2 ≤ length (now bytes) ⌝ }
     ensures { λ r. ⌜ now (words .exit) ≡ wordsOf (length (now (words .entry))) (now (bytes .entry)) ⌝ }
 {
     let mut i = 0;
     while i < words.len() {
-        words[i] = exchanged_at(bytes, i * 2);
+        words[i] = exchanged(low_first_at(bytes, i * 2));
         i += 1;
-    }
-    let mut k = 0;
-    while k < words.len() {
-        words[k] = exchanged(words[k]);
-        k += 1;
     }
 }
 
@@ -117,4 +124,22 @@ pub fn read_words(bytes: &[u8], words: &mut [u16], at: usize)
     let start = smaller(at, words.len());
     let end = start + smaller(bytes.len() / 2, words.len() - start);
     fill_words(bytes, &mut words[start..end]);
+}
+
+// The whole numbers of the bytes added up, modulo 65,536. The low byte of each and the high byte behind it count for as much in a number
+// whose low byte comes first, so that no bytes are exchanged; the first byte and the last stand alone.
+pub fn sum_words(bytes: &[u8]) -> u16
+    ensures { λ r. ⌜ r ≡ total (allWords (now (bytes .entry))) % 65536 ⌝ }
+{
+    let count = bytes.len() / 2;
+    if count == 0 {
+        return 0;
+    }
+    let mut sum = wide(bytes[0]) * 256;
+    let mut i = 1;
+    while i < count {
+        sum = word::wrapping_add(sum, low_first_at(bytes, i * 2 - 1));
+        i += 1;
+    }
+    word::wrapping_add(sum, wide(bytes[count * 2 - 1]))
 }

@@ -14,12 +14,12 @@ use Rattle.refusal.specs.Report.{answered}
 use Rattle.refusal.proofs.ReportLaws.{no-answer}
 use Rattle.memory.specs.Memory.{tooLong}
 use Rattle.word.proofs.Choice.{cond-true, cond-false}
-use Rattle.bigendian.specs.Numbers.{wordAt, wordsOf}
+use Rattle.bigendian.specs.Numbers.{wordAt, wordsOf, total}
 use Rattle.bigendian.proofs.NumberLaws.{words-length}
 use Rattle.records.specs.Records.{Record}
 use Rattle.records.specs.Loading.{refuseLoad, acceptLoad}
 use Rattle.image.specs.Format.{recordLimit, addressAt, countAt, recordHeadBytes, recordBytes}
-use Rattle.image.specs.Format.{recordAt, total, recordsSum, checksum, ImageHead, headLength, headSum}
+use Rattle.image.specs.Format.{recordAt, recordsSum, checksum, ImageHead, headLength, headSum}
 use Rattle.image.specs.Read.{Opening, headOf, placeOf, recordOf, tailOf, partOf, whole, withRecord}
 use Rattle.image.specs.Read.{follow, bodyOf}
 use Rattle.image.specs.Load.{isFor, sumAgrees, sumTested, boardTested, loadWith}

@@ -6,14 +6,14 @@ use native.Mathlib.Omega.{arith}
 use borrow.Rule.Slice.PartMut.{midOf, putMid, mid-len}
 use lib.Dec.{lit<}
 use lib.ListN.{length, take, drop, length-append, length-take, length-drop}
-use lib.Seq.{drop-drop}
+use lib.Seq.{take-all, drop-drop}
 use borrow.Author.Tests.{lt-ltb, le-ltb}
 use Rattle.refusal.specs.declared.Refusal.the-variants.{RoomTooSmall}
 use Rattle.refusal.proofs.ReportLaws.{no-answer, same-answer, same-refusal}
 use Rattle.word.specs.Word.{wrapAdd}
 use Rattle.word.proofs.Choice.{cond-true, cond-false}
 use Rattle.image.specs.declared.WriteAnswer.the-variants.{Refused, Written}
-use Rattle.bigendian.specs.Numbers.{bytesOf, putWords}
+use Rattle.bigendian.specs.Numbers.{bytesOf, total, fitting, putWords}
 use Rattle.bigendian.proofs.NumberLaws.{bytes-length, put-fits}
 use Rattle.bigendian.proofs.PutLaws.{put-length, put-behind, put-whole, part-put}
 use Rattle.records.specs.Records.{Record, recordOver, overwrite}
@@ -40,13 +40,27 @@ laid-more : (d : List ℕ) (at : ℕ) (xs ys : List ℕ) {d1 d2 : List ℕ} {nex
     → d2 ≡ putWords d at (xs ++ ys)
 laid-more d at xs ys e f g = rw (g, e, f) (put-behind d at xs ys)
 
--- a record's mark, address and count, and then its words, over a room that they fill
-pub record-put : (d : List ℕ) (x y z : ℕ) (ws : List ℕ) → length d ≡ recordBytes (length ws) → {d1 d2 d3 d4 : List ℕ} → d1 ≡ putWords d 0 (x ∷ [])
-    → d2 ≡ putWords d1 addressAt (y ∷ []) → d3 ≡ putWords d2 countAt (z ∷ []) → d4 ≡ putWords d3 recordHeadBytes ws → d4 ≡ bytesOf (x ∷ y ∷ z ∷ ws)
-record-put d x y z ws h e1 e2 e3 e4 =
-    let p2 = laid-more d 0 (x ∷ []) (y ∷ []) e1 refl e2 in
-    let p3 = laid-more d 0 (x ∷ y ∷ []) (z ∷ []) p2 refl e3 in
-    laid-more d 0 (x ∷ y ∷ z ∷ []) ws p3 refl e4 ∙ put-whole d (x ∷ y ∷ z ∷ ws) (omega arith)
+-- A record's mark x, address y and count z, and then its words, over a room that they fill.
+module _ (d : List ℕ) (x y z : ℕ) (ws : List ℕ) (h : length d ≡ recordBytes (length ws)) {d1 d2 d3 : List ℕ} (e1 : d1 ≡ putWords d 0 (x ∷ []))
+    (e2 : d2 ≡ putWords d1 addressAt (y ∷ [])) (e3 : d3 ≡ putWords d2 countAt (z ∷ [])) where
+  pub record-put : {d4 : List ℕ} → d4 ≡ putWords d3 recordHeadBytes ws → d4 ≡ bytesOf (x ∷ y ∷ z ∷ ws)
+  record-put e4 =
+      let p2 = laid-more d 0 (x ∷ []) (y ∷ []) e1 refl e2 in
+      let p3 = laid-more d 0 (x ∷ y ∷ []) (z ∷ []) p2 refl e3 in
+      laid-more d 0 (x ∷ y ∷ z ∷ []) ws p3 refl e4 ∙ put-whole d (x ∷ y ∷ z ∷ ws) (omega arith)
+
+  -- all of the words fit
+  all-fit : take (fitting (length d3) recordHeadBytes) ws ≡ ws
+  all-fit =
+      let l : length d3 ≡ length d = rw (e3, e2, e1) (put-length _ countAt _ ∙ put-length _ addressAt _ ∙ put-length d 0 (x ∷ [])) in
+      take-all (fitting (length d3) recordHeadBytes) ws (omega arith)
+
+  -- what the record adds to a sum, from the code's two: of address and count, and of the words that were put
+  pub record-sums : {s t r : ℕ} → s ≡ wrapAdd y (length ws) → t ≡ total (take (fitting (length d3) recordHeadBytes) ws) % 65536 → r ≡ wrapAdd s t
+      → r ≡ recordSum (recordOver y ws) % 65536
+  unfolding wrapAdd
+  record-sums f g i =
+      rw (i, f, rw all-fit at g) (mod-left (y + length ws) (total ws % 65536) ∙ mod-right (y + length ws) (total ws))
 
 take-of-take : (n : ℕ) (l : List ℕ) → take (length (take n l)) l ≡ take n l
 take-of-take zero l = refl

@@ -5,22 +5,21 @@ use mathlib.Core.Bool.{true, false}
 use mathlib.Core.List.{List}
 use native.Mathlib.Omega.{arith}
 use lib.Dec.{lit<}
-use lib.ListN.{length, getD, take, drop, length-drop}
-use lib.Seq.{take-length, take-at, drop-drop, sets, sets-eq}
+use lib.ListN.{length, take, drop, length-take, length-drop}
+use lib.Seq.{length-take-le, take-add, drop-at, drop-drop, sets}
 use Rattle.refusal.specs.declared.Refusal.{Refusal}
 use Rattle.image.specs.declared.check.Checked.the-variants.{Whole, Broken}
 use Rattle.word.specs.Word.{wrapAdd}
 use Rattle.word.proofs.WordLaws.{add-low}
 use Rattle.word.proofs.SetsLaws.{rest}
-use Rattle.bigendian.specs.Numbers.{wordsOf, allWords}
-use Rattle.bigendian.proofs.NumberLaws.{words-length, words-front}
-use Rattle.records.specs.Records.{Record, recordOver, overwrite}
+use Rattle.bigendian.specs.Numbers.{wordAt, wordsOf, allWords, total}
+use Rattle.bigendian.proofs.NumberLaws.{word-drop, words-length, words-front}
+use Rattle.records.specs.Records.{Record, overwrite}
 use Rattle.records.proofs.OverLaws.{overwrite-sets, overwrite-length}
-use Rattle.image.specs.Format.{recordHeadBytes, recordBytes, recordAt, total, recordSum, recordsSum}
+use Rattle.image.specs.Format.{addressAt, countAt, recordHeadBytes, recordBytes, recordAt, recordSum, recordsSum}
 use Rattle.image.specs.Read.{Part, recordPart, tailPart, offencePart, partOf, Body, whole, broken, withRecord, follow}
 use Rattle.image.specs.Read.{bodyOf}
 use Rattle.image.specs.inner.Pass.{summary, isWhole, placedBody}
-use Rattle.image.proofs.ByteLaws.{total-step}
 use Rattle.image.proofs.ReadLaws.{Sound, part-sound, body-law}
 
 -- a sum modulo 65,536 may be taken modulo 65,536 on the way
@@ -29,33 +28,6 @@ mod-left x y = omega arith
 
 pub mod-right : (x y : ℕ) → (x + y % 65536) % 65536 ≡ (x + y) % 65536
 mod-right x y = omega arith
-
--- The sum of the first i words of a list.
-pub record Summing (ws : List ℕ) (i sum : ℕ) : Type 0 where
-  pub within : i ≤ length ws
-  pub sums : sum ≡ total (take i ws) % 65536
-
-pub summing : (ws : List ℕ) → Summing ws 0 0
-summing ws = record { within = omega arith; sums = refl }
-
-pub summing-on : {ws : List ℕ} {i sum next : ℕ} → Summing ws i sum → i < length ws → next ≡ wrapAdd sum (getD ws i 0) → Summing ws (i + 1) next
-unfolding wrapAdd
-summing-on {ws} {i} k h e =
-    let t = total-step ws i h in
-    let s = k .sums in
-    record { within = omega arith; sums = omega arith }
-
-pub summing-end : {ws : List ℕ} {i sum : ℕ} → Summing ws i sum → length ws ≤ i → sum ≡ total ws % 65536
-summing-end {ws} {i} k h =
-    let w = k .within in
-    let e : i ≡ length ws = omega arith in
-    k .sums ∙ rw (e, take-length)
-
--- The sum of a record from the code's two sums: address and count, and its words.
-pub record-sums : (a : ℕ) (ws : List ℕ) {x y r : ℕ} → x ≡ wrapAdd a (length ws) → y ≡ total ws % 65536 → r ≡ wrapAdd x y
-    → r ≡ recordSum (recordOver a ws) % 65536
-unfolding wrapAdd
-record-sums a ws e f g = rw (g, e, f) (mod-left (a + length ws) (total ws % 65536) ∙ mod-right (a + length ws) (total ws))
 
 -- The c words behind a record's head, read from the bytes up to the record's end.
 module _ (bytes : List ℕ) (c : ℕ) (whole : recordBytes c ≤ length bytes) where
@@ -75,11 +47,17 @@ module _ (bytes : List ℕ) (c : ℕ) (whole : recordBytes c ≤ length bytes) w
       let l = words-length c (drop recordHeadBytes bytes) in
       rw words-read (sym (overwrite-sets m a words (omega arith)))
 
-  -- .. and they stand at the front of the scratch room
-  pub words-kept : (d : List ℕ) → c ≤ length d → take c (sets d 0 (allWords part)) ≡ words
-  words-kept d h =
-      let l = words-length c (drop recordHeadBytes bytes) in
-      rw (words-read, sets-eq words d 0 (omega arith)) (take-at words (drop (0 + length words) d) c l)
+  -- address, count and words: all numbers of the record but the mark
+  pub numbers-added : wordAt bytes countAt ≡ c → total (allWords (drop addressAt (take (recordBytes c) bytes))) ≡ recordSum (recordAt (wordAt bytes addressAt) c bytes)
+  numbers-added e =
+      let s : recordBytes c ≡ addressAt + suc (suc c) * 2 = omega arith in
+      let f = words-front (suc (suc c)) (drop addressAt bytes) (omega (arith, length-drop addressAt bytes)) in
+      let n = words-length c (drop recordHeadBytes bytes) in
+      let d : drop addressAt (take (recordBytes c) bytes) ≡ take (suc (suc c) * 2) (drop addressAt bytes) =
+      rw (s, take-add addressAt (suc (suc c) * 2) bytes) (drop-at (take addressAt bytes) (take (suc (suc c) * 2) (drop addressAt bytes)) addressAt (length-take-le addressAt bytes (omega arith))) in
+      let x : drop 2 (drop 2 bytes) ≡ drop 4 bytes = drop-drop 2 2 bytes in
+      let y : drop 2 (drop 4 bytes) ≡ drop 6 bytes = drop-drop 2 4 bytes in
+      rw (d, f, x, y) (omega (arith, word-drop bytes 2 0, word-drop bytes 4 0))
 
 -- One record more of a body: what the first pass makes of it.
 summary-on : (n sum next : ℕ) (r : Record) (b : Body) → next ≡ wrapAdd sum (recordSum r % 65536) → summary (n + 1) next b ≡ summary n sum (withRecord r b)
@@ -118,6 +96,12 @@ module _ {limit len : ℕ} {body : List ℕ} {at : ℕ} {p : Part} (k : Reading 
       let w = k .within in
       record { within = omega (arith, s .complete, length-drop at body) }
 
+  -- the record's bytes have the place of its address
+  pub reading-marked : {a c : ℕ} → p ≡ recordPart a c → addressAt ≤ length (take (at + recordBytes c - at) (drop at body))
+  reading-marked {a} {c} f =
+      let w = reading-on f .within in
+      omega (arith, length-take (at + recordBytes c - at) (drop at body), length-drop at body)
+
   pub reading-less : {a c : ℕ} → p ≡ recordPart a c → length body - (at + recordBytes c) < length body - at
   reading-less f = omega (arith, reading-on f .within)
 
@@ -127,10 +111,13 @@ module _ {limit len : ℕ} {body : List ℕ} {at : ℕ} {p : Part} (k : Reading 
 module _ {limit len : ℕ} {body : List ℕ} {at n sum : ℕ} {p : Part} (k : Checking limit len body at n sum)
     (e : p ≡ partOf limit len (take (length body - at) (drop at body))) where
   pub checking-on : {a c t next : ℕ} → p ≡ recordPart a c
-      → t ≡ recordSum (recordAt a c (take (length body - at) (drop at body))) % 65536 → next ≡ wrapAdd sum t
+      → t ≡ total (allWords (drop addressAt (take (at + recordBytes c - at) (drop at body)))) % 65536 → next ≡ wrapAdd sum t
       → Checking limit len body (at + recordBytes c) (n + 1) next
   checking-on {a} {c} {t} {next} f g h =
-      let u : next ≡ wrapAdd sum (recordSum (recordAt a c (drop at body)) % 65536) = h ∙ ap (wrapAdd sum) (rw (rest body at) at g) in
+      let s = part-sound limit len (drop at body) a c (sym (part-is (k .here) e) ∙ f) in
+      let z : at + recordBytes c - at ≡ recordBytes c = omega arith in
+      let v = rw (s .address) at (numbers-added (drop at body) c (s .complete) (s .count)) in
+      let u : next ≡ wrapAdd sum (recordSum (recordAt a c (drop at body)) % 65536) = h ∙ ap (wrapAdd sum) (rw (z, v) at g) in
       record {
         here = reading-on (k .here) e f;
         few = omega (arith, k .few);

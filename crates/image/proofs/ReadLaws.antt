@@ -20,6 +20,8 @@ use Rattle.word.proofs.Choice.{cond-both, cond-either, cond-true}
 
 -- what a record's part shows
 pub record Sound (limit len : ℕ) (bytes : List ℕ) (a c : ℕ) : Type 0 where
+  pub address : wordAt bytes addressAt ≡ a
+  pub count : wordAt bytes countAt ≡ c
   pub some : 0 < c
   pub few : c ≤ limit
   pub complete : recordBytes c ≤ length bytes
@@ -36,9 +38,15 @@ module _ (limit len : ℕ) (bytes : List ℕ) (a c : ℕ) where
   tail : (s : ℕ) → Claim limit len bytes a c (tailPart s)
   tail s f = let z : _≡_ {A = ℕ} 0 1 = cc in absurd (omega arith)
 
-  place-sound : (a₁ c₁ : ℕ) → Claim limit len bytes a c (placeOf limit len bytes a₁ c₁)
+  abbrev a₁ : ℕ
+  a₁ = wordAt bytes addressAt
+
+  abbrev c₁ : ℕ
+  c₁ = wordAt bytes countAt
+
+  place-sound : Claim limit len bytes a c (placeOf limit len bytes a₁ c₁)
   unfolding placeOf
-  place-sound a₁ c₁ =
+  place-sound =
       cond-either (Claim limit len bytes a c) (eqb c₁ 0) (λ e. offence MalformedImage) (λ e0.
       cond-either (Claim limit len bytes a c) (ltb limit c₁) (λ e. offence MalformedImage) (λ e1.
       cond-either (Claim limit len bytes a c) (ltb (length bytes) (recordBytes c₁)) (λ e. offence MalformedImage) (λ e2.
@@ -49,14 +57,14 @@ module _ (limit len : ℕ) (bytes : List ℕ) (a c : ℕ) where
       let n1 = ltb-false limit c₁ e1 in
       let n2 = ltb-false (length bytes) (recordBytes c₁) e2 in
       let n3 = leb-true (a₁ + c₁) len e3 in
-      record { some = omega arith; few = omega arith; complete = omega arith; within = omega arith }) (λ e. offence PastMemory))))
+      record { address = ea; count = ec; some = omega arith; few = omega arith; complete = omega arith; within = omega arith }) (λ e. offence PastMemory))))
 
   pub part-sound : partOf limit len bytes ≡ recordPart a c → Sound limit len bytes a c
   unfolding partOf recordOf tailOf
   part-sound =
       cond-both (Claim limit len bytes a c) (ltb (length bytes) 2) (offence MalformedImage)
       (cond-both (Claim limit len bytes a c) (eqb (wordAt bytes 0) atMark)
-      (cond-both (Claim limit len bytes a c) (ltb (length bytes) recordHeadBytes) (offence MalformedImage) (place-sound (wordAt bytes addressAt) (wordAt bytes countAt)))
+      (cond-both (Claim limit len bytes a c) (ltb (length bytes) recordHeadBytes) (offence MalformedImage) place-sound)
       (cond-both (Claim limit len bytes a c) (eqb (wordAt bytes 0) okMark)
       (cond-both (Claim limit len bytes a c) (eqb (length bytes) tailBytes) (tail (wordAt bytes sumAt)) (offence MalformedImage))
       (offence MalformedImage)))

@@ -2,7 +2,7 @@
 use Prim.Native.Nat.{ℕ, _+_, _*_, _%_}
 use mathlib.Core.List.{List, [], _∷_, _++_}
 use lib.ListN.{length, drop}
-use Rattle.bigendian.specs.Numbers.{wordsOf, bytesOf}
+use Rattle.bigendian.specs.Numbers.{wordsOf, bytesOf, total}
 use Rattle.records.specs.Records.{Record, recordOver}
 
 -- "count 1 to 4,096". Each definition of a file takes the limit as an argument; this is the one of the loader and the writer.
@@ -54,10 +54,6 @@ bodyBytes file = drop headBytes file
 -- the record of so many words whose bytes begin with its mark
 abbrev pub recordAt : ℕ → ℕ → List ℕ → Record
 recordAt address count bytes = recordOver address (wordsOf count (drop recordHeadBytes bytes))
-
-abbrev pub total : List ℕ → ℕ
-total [] = 0
-total (w ∷ ws) = w + total ws
 
 -- "Sum = board, addresses, counts and words, modulo 65,536": no mark is in it
 abbrev pub recordSum : Record → ℕ

@@ -1,11 +1,11 @@
 // The writer's work: the head, the records of a region and the tail, put into the lent room.
 ghost use mathlib.Core.Path.{_≡_};
-ghost use Prim.Native.Nat.{_+_, _≤_, min};
+ghost use Prim.Native.Nat.{_+_, _%_, _≤_, min};
 ghost use lib.ListN.{length};
 ghost use Rattle.bigendian.specs.Numbers.{bytesOf};
 ghost use Rattle.records.specs.Records.{recordOver};
 ghost use Rattle.records.specs.Cut.{cutOf};
-ghost use Rattle.image.specs.Format.{recordLimit, headBytes, recordBytes, recordWords, idHead, imageOf};
+ghost use Rattle.image.specs.Format.{recordLimit, headBytes, recordBytes, recordSum, recordWords, idHead, imageOf};
 ghost use Rattle.image.specs.Write.{imageLength, wrote, writing};
 ghost use Rattle.image.specs.inner.Emit.{RecordsPut};
 use crate::WriteAnswer;
@@ -21,15 +21,19 @@ fn image_length(words: usize) -> usize
     format::HEAD_BYTES + format::TAIL_BYTES + records * format::RECORD_HEAD_BYTES + words * 2
 }
 
-// A record of these words, of which there are at most as many as the limit, over a room that it fills.
-fn put_record(room: &mut [u8], address: u16, words: &[u16])
+// A record of these words, of which there are at most as many as the limit, over a room that it fills. Answers what it adds to the
+// file's sum: address, count and words.
+fn put_record(room: &mut [u8], address: u16, words: &[u16]) -> u16
     requires { ⌜ (length (now words) ≤ recordLimit) × (length (now room) ≡ recordBytes (length (now words))) ⌝ }
-    ensures { λ r. ⌜ now (room .exit) ≡ bytesOf (recordWords (recordOver address (now (words .entry)))) ⌝ }
+    ensures { λ r. ⌜ (now (room .exit) ≡ bytesOf (recordWords (recordOver address (now (words .entry)))))
+        × (r ≡ recordSum (recordOver address (now (words .entry))) % 65536) ⌝ }
 {
+    let count = words.len() as u16;
     bigendian::put_word(room, 0, format::AT_MARK);
     bigendian::put_word(room, format::ADDRESS_AT, address);
-    bigendian::put_word(room, format::COUNT_AT, words.len() as u16);
-    bigendian::put_words(room, format::RECORD_HEAD_BYTES, words);
+    bigendian::put_word(room, format::COUNT_AT, count);
+    let sum = bigendian::put_words(room, format::RECORD_HEAD_BYTES, words);
+    word::wrapping_add(word::wrapping_add(address, count), sum)
 }
 
 // How many words the next record has, of so many that are left.
@@ -58,8 +62,8 @@ fn put_records(room: &mut [u8], first: u16, region: &[u16]) -> u16
         // one number, by which the compiler sees that all of the record fits its part of the room
         let bytes = format::RECORD_HEAD_BYTES + count * 2;
         let next = at + bytes;
-        put_record(&mut room[at..next], address, &region[start..end]);
-        sum = word::wrapping_add(sum, format::sum_record(address, &region[start..end]));
+        let added = put_record(&mut room[at..next], address, &region[start..end]);
+        sum = word::wrapping_add(sum, added);
         at = next;
         start = end;
     }

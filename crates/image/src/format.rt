@@ -1,9 +1,4 @@
-// The format of an image file: its marks, where its numbers stand, and what they add up to.
-ghost use mathlib.Core.Path.{_≡_};
-ghost use Prim.Native.Nat.{_%_, _≤_};
-ghost use lib.ListN.{length};
-ghost use Rattle.records.specs.Records.{recordOver};
-ghost use Rattle.image.specs.Format.{recordLimit, total, recordSum};
+// The format of an image file: its marks, the limit of a record, and where its numbers stand.
 
 // No record has more words. The writer cuts a region into records of so many.
 pub(crate) const RECORD_LIMIT: usize = 4096;
@@ -31,24 +26,3 @@ pub const RECORD_HEAD_BYTES: usize = 6;
 pub(crate) const SUM_AT: usize = 2;
 
 pub(crate) const TAIL_BYTES: usize = 4;
-
-fn sum_words(words: &[u16]) -> u16
-    ensures { λ r. ⌜ r ≡ total (now (words .entry)) % 65536 ⌝ }
-{
-    let mut sum: u16 = 0;
-    let mut i = 0;
-    while i < words.len() {
-        sum = word::wrapping_add(sum, words[i]);
-        i += 1;
-    }
-    sum
-}
-
-// What a record adds to the file's sum: address, count and words, all but the mark.
-pub(crate) fn sum_record(address: u16, words: &[u16]) -> u16
-    requires { ⌜ length (now words) ≤ recordLimit ⌝ }
-    ensures { λ r. ⌜ r ≡ recordSum (recordOver address (now (words .entry))) % 65536 ⌝ }
-{
-    let count = words.len() as u16;
-    word::wrapping_add(word::wrapping_add(address, count), sum_words(words))
-}

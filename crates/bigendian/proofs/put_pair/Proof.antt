@@ -1,26 +1,16 @@
--- Two stores are the word's two bytes.
-use native.Mathlib.Numerals.{add-one}
-use Prim.Native.Nat.{_/_}
+-- The bytes of a number, low byte first, are those of the exchanged number.
+use mathlib.Core.Path.{ap, _∙_}
 use native.Mathlib.Omega.{arith}
-use lib.ListN.{length-set}
+use lib.Seq.{sets}
+use Rattle.bigendian.proofs.PutLaws.{exchanged-bytes}
 use borrow.Author.Needs.{needs}
 use Rattle.bigendian.proofs.put_pair.Statement.{statement}
 use Rattle.bigendian.proofs.put_pair.Tie as tie
 
-slice-write-room-2 : tie.Need-slice-write-room-2
-slice-write-room-2 c = omega (arith, length-set (c .args .room .now) (c .args .at) (c .args .word / 256))
-
 returns : tie.Need-returns
-returns c = rw add-one
+returns c =
+    let a = c .before .before .before .before .before .before .args in
+    c .before .before .put-low-first .ensures ∙ ap (sets (a .room .now) (a .at)) (exchanged-bytes (a .word) _ (omega arith) (c .before .before .before .exchanged .ensures))
 
 pub put-pair-spec : {M : Type 1} → statement M
-put-pair-spec =
-    tie.close
-    (tie.spec
-    (λ c. search needs)
-    (λ c. search needs)
-    (λ c. search needs)
-    (λ c. search needs)
-    slice-write-room-2
-    (λ c. search needs)
-    returns)
+put-pair-spec = tie.close (tie.spec (λ c κs. search needs) (λ c κs. search needs) (λ c. search needs) returns)

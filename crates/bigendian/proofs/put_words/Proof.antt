@@ -1,4 +1,4 @@
--- Numbers as bytes, by the record `Putting`.
+-- Numbers as bytes, and their sum, by the record `Putting`.
 use Prim.Native.Nat.{_-_}
 use native.Mathlib.Omega.{arith}
 use borrow.Author.Needs.{needs}
@@ -7,10 +7,10 @@ use Rattle.bigendian.proofs.put_words.Statement.{statement}
 use Rattle.bigendian.proofs.put_words.Tie as tie
 
 abbrev Inv-loop : tie.InvT-loop
-Inv-loop room₀ at words count i₀ room i = Putting room₀ at words room count i
+Inv-loop room₀ at words count sum₀ i₀ room sum i = Putting room₀ at words room count sum i
 
 abbrev μ-loop : tie.MeasureT-loop
-μ-loop room₀ at words count i₀ room i = count - i
+μ-loop room₀ at words count sum₀ i₀ room sum i = count - i
 
 loop-holds : tie.Need-loop-holds Inv-loop μ-loop
 loop-holds c = putting _ _ _ _
@@ -19,7 +19,8 @@ put-pair-requires : tie.Need-put-pair-requires Inv-loop μ-loop
 put-pair-requires c κs = omega (arith, putting-length (c .before .before .before .loop .inv))
 
 loop-again : tie.Need-loop-again Inv-loop μ-loop
-loop-again c = putting-on (c .before .before .before .before .before .before .loop .inv) (c .before .before .before .before .before .loop-test .taken) (omega arith) (c .before .before .put-pair .ensures)
+loop-again c =
+    putting-on (c .before .before .before .before .before .before .before .before .loop .inv) (c .before .before .before .before .before .before .before .loop-test .taken) (omega arith) (c .before .before .before .before .put-pair .ensures) (c .wrapping-add .ensures)
 
 same-length : tie.Need-same-length Inv-loop μ-loop
 same-length c = putting-length (c .before .loop .inv)
@@ -41,6 +42,9 @@ put-words-spec =
     (λ c. search needs)
     (λ c. search needs)
     put-pair-requires
+    (λ c. search needs)
+    (λ c. search needs)
+    (λ c κs. search needs)
     (λ c. search needs)
     (λ c. search needs)
     loop-again

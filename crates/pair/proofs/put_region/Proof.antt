@@ -17,7 +17,7 @@ returns-2 c =
 returns-3 : tie.Need-returns-3
 returns-3 c =
     let a = c .before .before .before .before .before .before .before .before .before .before .before .before .before .args in
-    both-written (a .first) (a .region .now) (a .bin .now) (a .cfg .now) (c .before .before .before .before .before .before .before .before .before .if1 .left) (c .before .before .before .before .before .before .before .before .if2 .left) (c .before .before .before .before .before .before .put-words .ensures) (c .before .before .put-text .ensures)
+    both-written (a .first) (a .region .now) (a .bin .now) (a .cfg .now) (c .before .before .before .before .before .before .before .before .before .if1 .left) (c .before .before .before .before .before .before .before .before .if2 .left) (c .before .before .before .before .before .before .put-words .ensures .0) (c .before .before .put-text .ensures)
 
 pub put-region-spec : {M : Type 1} → statement M
 put-region-spec =

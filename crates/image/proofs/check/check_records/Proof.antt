@@ -1,47 +1,45 @@
--- The first pass, by the record `Checking`: each turn is a law of PassLaws. The scratch room keeps its length.
+-- The first pass, by the record `Checking`: each turn is a law of PassLaws.
 use Prim.Native.Nat.{_-_}
 use native.Mathlib.Omega.{arith}
-use mathlib.Core.Path.{_≡_, refl, sym, ap}
+use mathlib.Core.Path.{ap}
 use Rattle.image.specs.Format.{recordLimit}
 use Rattle.image.specs.inner.Pass.{partRead}
 use borrow.Author.Needs.{needs}
 use lib.ListN.{length}
-use Rattle.image.proofs.PassLaws.{Checking, checking, part-whole, reading-on, reading-less, checking-on, checking-tail}
+use Rattle.image.proofs.PassLaws.{Checking, checking, reading-on, reading-marked, reading-less, checking-on, checking-tail}
 use Rattle.image.proofs.PassLaws.{checking-broken}
 use Rattle.image.proofs.check.check_records.Statement.{statement}
 use Rattle.image.proofs.check.check_records.Tie as tie
 
 abbrev Inv-loop : tie.InvT-loop
-Inv-loop body size scratch₀ at₀ records₀ sum₀ scratch at records sum = (length scratch ≡ recordLimit) × Checking recordLimit size body at records sum
+Inv-loop body size at₀ records₀ sum₀ at records sum = Checking recordLimit size body at records sum
 
 abbrev μ-loop : tie.MeasureT-loop
-μ-loop body size scratch₀ at₀ records₀ sum₀ scratch at records sum = length body - at
+μ-loop body size at₀ records₀ sum₀ at records sum = length body - at
 
 loop-holds : tie.Need-loop-holds Inv-loop μ-loop
-loop-holds c = (refl, checking _ _ _)
+loop-holds c = checking _ _ _
 
-slice-aggregate-sum-record : tie.Need-slice-aggregate-sum-record Inv-loop μ-loop
-slice-aggregate-sum-record c = sym (c .before .before .before .before .before .before .before .loop .inv .0)
+add-next : tie.Need-add-next Inv-loop μ-loop
+add-next c = omega (arith, reading-on (c .before .before .before .before .before .loop .inv .here) (c .before .before .before .read-part .ensures) (ap partRead (c .before .part .given .1)) .within)
+
+part-sum-record-end : tie.Need-part-sum-record-end Inv-loop μ-loop
+part-sum-record-end c = reading-on (c .before .before .before .before .before .loop .inv .here) (c .before .before .before .read-part .ensures) (ap partRead (c .before .part .given .1)) .within
 
 sum-record-requires : tie.Need-sum-record-requires Inv-loop μ-loop
-sum-record-requires c κs = let i = c .before .before .before .before .before .before .before .loop .inv in
-    let s = part-whole (i .1 .here) (c .before .before .before .before .before .read-part .ensures) (ap partRead (c .before .before .before .part .given .1)) in
-    (s .complete, s .few, omega (arith, i .0))
-
-add-at-2 : tie.Need-add-at-2 Inv-loop μ-loop
-add-at-2 c = omega (arith, reading-on (c .before .before .before .before .before .before .before .before .before .before .loop .inv .1 .here) (c .before .before .before .before .before .before .before .before .read-part .ensures) (ap partRead (c .before .before .before .before .before .before .part .given .1)) .within)
+sum-record-requires c κs = reading-marked (c .before .before .before .before .before .before .loop .inv .here) (c .before .before .before .before .read-part .ensures) (ap partRead (c .before .before .part .given .1))
 
 loop-less : tie.Need-loop-less Inv-loop μ-loop
-loop-less c = reading-less (c .before .before .before .before .before .before .before .before .before .before .loop .inv .1 .here) (c .before .before .before .before .before .before .before .before .read-part .ensures) (ap partRead (c .before .before .before .before .before .before .part .given .1))
+loop-less c = reading-less (c .before .before .before .before .before .before .before .before .loop .inv .here) (c .before .before .before .before .before .before .read-part .ensures) (ap partRead (c .before .before .before .before .part .given .1))
 
 loop-again : tie.Need-loop-again Inv-loop μ-loop
-loop-again c = (c .before .scratch2 .given, checking-on (c .before .before .before .before .before .before .before .before .before .before .loop .inv .1) (c .before .before .before .before .before .before .before .before .read-part .ensures) (ap partRead (c .before .before .before .before .before .before .part .given .1)) (c .before .before .sum-record .ensures) (c .wrapping-add .ensures))
+loop-again c = checking-on (c .before .before .before .before .before .before .before .before .loop .inv) (c .before .before .before .before .before .before .read-part .ensures) (ap partRead (c .before .before .before .before .part .given .1)) (c .before .sum-record .ensures) (c .wrapping-add .ensures)
 
 returns : tie.Need-returns Inv-loop μ-loop
-returns c = checking-tail (c .before .before .before .before .before .loop .inv .1) (c .before .before .before .read-part .ensures) (ap partRead (c .before .part2 .given .1))
+returns c = checking-tail (c .before .before .before .before .before .loop .inv) (c .before .before .before .read-part .ensures) (ap partRead (c .before .part2 .given .1))
 
 returns-2 : tie.Need-returns-2 Inv-loop μ-loop
-returns-2 c = checking-broken (c .before .before .before .before .before .loop .inv .1) (c .before .before .before .read-part .ensures) (ap partRead (c .before .part3 .given .1))
+returns-2 c = checking-broken (c .before .before .before .before .before .loop .inv) (c .before .before .before .read-part .ensures) (ap partRead (c .before .part3 .given .1))
 
 pub check-records-spec : {M : Type 1} → statement M
 check-records-spec =
@@ -58,14 +56,13 @@ check-records-spec =
     (λ c. search needs)
     (λ c. search needs)
     (λ c. search needs)
-    slice-aggregate-sum-record
+    add-next
+    (λ c. search needs)
+    (λ c. search needs)
+    part-sum-record-end
     sum-record-requires
     (λ c κs. search needs)
     (λ c. search needs)
-    (λ c. search needs)
-    (λ c. search needs)
-    (λ c. search needs)
-    add-at-2
     loop-less
     loop-again
     (λ c. search needs)

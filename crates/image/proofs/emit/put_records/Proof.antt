@@ -29,7 +29,9 @@ put-record-requires c κs =
     (omega arith, emitting-room i (c .before .before .before .loop-test .taken) (c .before .before .next-count .ensures))
 
 loop-again : tie.Need-loop-again Inv-loop μ-loop
-loop-again c = emitting-on (c .before .before .before .before .before .before .before .before .before .before .loop .inv) (c .before .before .before .before .before .before .before .before .before .loop-test .taken) (c .before .before .before .before .before .before .before .before .next-count .ensures) (c .before .before .before .before .before .put-record .ensures) (c .before .sum-record .ensures) (c .wrapping-add .ensures)
+loop-again c =
+    let put = c .before .before .before .put-record .ensures in
+    emitting-on (c .before .before .before .before .before .before .before .before .loop .inv) (c .before .before .before .before .before .before .before .loop-test .taken) (c .before .before .before .before .before .before .next-count .ensures) (put .0) (put .1) (c .wrapping-add .ensures)
 
 same-length : tie.Need-same-length Inv-loop μ-loop
 same-length c = emitting-length (c .before .loop .inv)
@@ -60,11 +62,6 @@ put-records-spec =
     (λ c. search needs)
     (λ c. search needs)
     put-record-requires
-    (λ c. search needs)
-    (λ c. search needs)
-    (λ c. search needs)
-    (λ c. search needs)
-    (λ c κs. search needs)
     (λ c κs. search needs)
     (λ c. search needs)
     loop-again

@@ -1,16 +1,16 @@
--- Exchanging the bytes once more gives the number.
+-- The number of two bytes, and that of the two exchanged.
 use native.Mathlib.Omega.{arith}
 use Rattle.bigendian.specs.Numbers.{wordAt}
 use borrow.Author.Needs.{needs}
-use Rattle.bigendian.proofs.exchanged_at.Statement.{statement}
-use Rattle.bigendian.proofs.exchanged_at.Tie as tie
+use Rattle.bigendian.proofs.low_first_at.Statement.{statement}
+use Rattle.bigendian.proofs.low_first_at.Tie as tie
 
 returns : tie.Need-returns
 unfolding wordAt
-returns c = omega arith
+returns c = (omega arith, omega arith)
 
-pub exchanged-at-spec : {M : Type 1} → statement M
-exchanged-at-spec =
+pub low-first-at-spec : {M : Type 1} → statement M
+low-first-at-spec =
     tie.close
     (tie.spec
     (λ c. search needs)

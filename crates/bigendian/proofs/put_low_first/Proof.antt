@@ -1,0 +1,26 @@
+-- Two stores are the word's two bytes.
+use native.Mathlib.Numerals.{add-one}
+use Prim.Native.Nat.{_%_}
+use native.Mathlib.Omega.{arith}
+use lib.ListN.{length-set}
+use borrow.Author.Needs.{needs}
+use Rattle.bigendian.proofs.put_low_first.Statement.{statement}
+use Rattle.bigendian.proofs.put_low_first.Tie as tie
+
+slice-write-room-2 : tie.Need-slice-write-room-2
+slice-write-room-2 c = omega (arith, length-set (c .args .room .now) (c .args .at) (c .args .word % 256))
+
+returns : tie.Need-returns
+returns c = rw add-one
+
+pub put-low-first-spec : {M : Type 1} → statement M
+put-low-first-spec =
+    tie.close
+    (tie.spec
+    (λ c. search needs)
+    (λ c. search needs)
+    (λ c. search needs)
+    (λ c. search needs)
+    slice-write-room-2
+    (λ c. search needs)
+    returns)
