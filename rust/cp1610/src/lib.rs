@@ -79,8 +79,11 @@ pub const TEXT_ROOM: usize = 16;
 /// The most words that a line stands for.
 pub const LINE_WORDS: usize = 3;
 
-/// The most words of a record in an image file.
-pub const RECORD_WORDS: usize = 1_024;
+/// The most words of a record in an image file. The writer makes records of so many, the last perhaps shorter.
+pub const RECORD_WORDS: usize = 4_096;
+
+/// The room that the longest image file needs, that of 65,536 words.
+pub const IMAGE_ROOM: usize = 131_176;
 
 /// The room that the text of a written pair needs, and its length, whatever the region.
 pub const CFG_ROOM: usize = 32;

@@ -24,7 +24,7 @@ pub enum Refusal {
     FirstAboveLast = 7,
     /// A limit above 4,096 cycles.
     LimitTooHigh = 8,
-    /// An image file with a missing or wrong mark, cut, with a count of 0 or above 1,024, or with bytes after its end.
+    /// An image file with a missing or wrong mark, cut, with a count of 0 or above 4,096, or with bytes after its end.
     MalformedImage = 9,
     /// An image file for another board.
     WrongBoard = 10,

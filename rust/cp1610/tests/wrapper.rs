@@ -2,8 +2,9 @@
 
 use cp1610::calls::{self, NO_MAP, SHORT_BUFFER};
 use cp1610::{
-    Board, CFG_ROOM, Cause, DEFAULT_LIMIT, Event, Kind, Lines, Longest, MOST_ENTRIES, Machine, Mark, PairLengths,
-    Range, Reached, ReachedSet, Refusal, Region, Register, SET_WORDS, STATE_WORDS, Wait,
+    Board, CFG_ROOM, Cause, DEFAULT_LIMIT, Event, IMAGE_ROOM, Kind, LONGEST_MEMORY, Lines, Longest, MOST_ENTRIES,
+    Machine, Mark, PairLengths, RECORD_WORDS, Range, Reached, ReachedSet, Refusal, Region, Register, SET_WORDS,
+    STATE_WORDS, Wait,
 };
 
 #[test]
@@ -112,6 +113,44 @@ fn a_limit_of_0_is_the_default_limit() {
         assert_eq!(cp1610::region(&memory, &board, 0, 9, limit), Ok(found));
         assert_eq!(cp1610::region_reached(&memory, &board, 0, 9, limit, &set), Ok(found));
     }
+}
+
+/// The file for board 2 of a record at 0, of so many words of 0.
+fn file_of(words: u16) -> Vec<u8> {
+    let [high, low] = words.to_be_bytes();
+    let mut file = [&b"ID\x00\x02AT\x00\x00"[..], &[high, low]].concat();
+    file.resize(file.len() + 2 * usize::from(words), 0);
+    file.extend_from_slice(b"OK");
+    file.extend_from_slice(&(words + 2).to_be_bytes());
+    file
+}
+
+/// As many words as a record may have are one, one word more makes two, and a whole memory just fills the longest room.
+#[test]
+fn an_image_has_full_records() {
+    let (memory, mut room) = (vec![0x1610; LONGEST_MEMORY], vec![9; IMAGE_ROOM]);
+    let full = RECORD_WORDS as u16;
+    for (last, length, records) in [(full - 1, 8_206, 1), (full, 8_214, 2), (u16::MAX, IMAGE_ROOM, 16)] {
+        let mut back = vec![0; LONGEST_MEMORY];
+        assert_eq!(cp1610::write(2, &memory, 0, last, &mut room[..length - 1]), Err(Refusal::RoomTooSmall));
+        assert_eq!(cp1610::write(2, &memory, 0, last, &mut room), Ok(length));
+        assert_eq!(cp1610::load(2, &mut back, &room[..length]), Ok(records));
+        assert_eq!(back.iter().filter(|word| **word == 0x1610).count(), usize::from(last) + 1);
+    }
+}
+
+#[test]
+fn a_record_above_the_limit_is_refused() {
+    let mut memory = vec![9; LONGEST_MEMORY];
+    let full = RECORD_WORDS as u16;
+    for words in [0, full + 1] {
+        assert_eq!(cp1610::load(2, &mut memory, &file_of(words)), Err(Refusal::MalformedImage));
+    }
+    assert!(memory.iter().all(|word| *word == 9));
+    for words in [1, full] {
+        assert_eq!(cp1610::load(2, &mut memory, &file_of(words)), Ok(1));
+    }
+    assert_eq!((memory[RECORD_WORDS - 1], memory[RECORD_WORDS]), (0, 9));
 }
 
 /// Later lines win, and words that no line names are left.

@@ -4,7 +4,7 @@ use super::calls;
 use super::words::counted;
 use crate::Refusal;
 
-/// Loads an image file for `board`, and answers the number of its records.
+/// Loads an image file for `board`, and answers the number of its records, each of 1 to [`RECORD_WORDS`](crate::RECORD_WORDS) words.
 ///
 /// ```
 /// let file = b"ID\x00\x02AT\x00\x10\x00\x01\x00\x34OK\x00\x47"; // for board 2, one record: $0034 at $0010
@@ -26,7 +26,9 @@ pub fn load(board: u16, memory: &mut [u16], file: &[u8]) -> Result<usize, Refusa
     counted(calls::load(board, memory, file))
 }
 
-/// Writes the words `first..=last` as an image file for `board`, and answers its length. The room past it stays.
+/// Writes the words `first..=last` as an image file for `board`, and answers its length: 8 bytes, 2 for each word and 6 for each record, of
+/// which all but the last have [`RECORD_WORDS`](crate::RECORD_WORDS) words. The room past it stays; [`IMAGE_ROOM`](crate::IMAGE_ROOM)
+/// takes any region.
 ///
 /// ```
 /// let memory = [0x0034; 0x20];

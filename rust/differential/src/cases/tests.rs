@@ -121,8 +121,8 @@ after answer=loaded records=1 0010=0034
 write a word
 before size=17 first=0010 last=0010 room=20 0010=0034
 after answer=written length=16 file=4944000241540010000100344F4B0047
-trip 1,025 words
-before size=1281 first=0100 last=0500 room=2070
+trip 4,097 words
+before size=4353 first=0100 last=1100 room=8214
 after answer=loaded records=2
 ",
         wrong: &[
@@ -132,7 +132,7 @@ after answer=loaded records=2
             ("length=16", "length=17"),
             ("room=20 ", "room=15 "),
             ("4F4B0047\ntrip", "4F4B0048\ntrip"),
-            ("room=2070", "room=2071"),
+            ("room=8214", "room=8215"),
             ("records=2", "records=1"),
         ],
     },
