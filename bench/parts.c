@@ -8,7 +8,7 @@
 enum { LIMIT = 57 };
 
 static uint16_t mem[65536], back[65536];
-static uint8_t file[131464], bin[131072], cfg[CP1610_CFG_ROOM];
+static uint8_t file[CP1610_IMAGE_ROOM], bin[131072], cfg[CP1610_CFG_ROOM];
 static uint64_t clear[CP1610_SET_WORDS], set[CP1610_SET_WORDS];
 
 /* The same made-up words on every machine. */

@@ -10,7 +10,7 @@
 #include <stdint.h>
 
 /* The number of this interface, raised by each request that changes or adds a call. */
-#define CP1610_INTERFACE 5
+#define CP1610_INTERFACE 6
 
 #ifdef __cplusplus
 extern "C" {
@@ -67,7 +67,7 @@ enum cp1610_refusal {
     CP1610_NOT_A_LISTING_LINE = 6,
     CP1610_FIRST_ABOVE_LAST = 7,
     CP1610_LIMIT_TOO_HIGH = 8,
-    CP1610_MALFORMED_IMAGE = 9,
+    CP1610_MALFORMED_IMAGE = 9, /* a missing or wrong mark, a cut file, a count of 0 or above 4,096, bytes after the sum */
     CP1610_WRONG_BOARD = 10,
     CP1610_PAST_MEMORY = 11, /* a record, a mapping line's target or a written region */
     CP1610_SUM_DIFFERS = 12,
@@ -98,6 +98,10 @@ enum cp1610_region_report {
 /* What a listing reports, and the most words of a line. */
 enum cp1610_list_report { CP1610_TEXT_LENGTH = 0, CP1610_WORDS_USED = 1, CP1610_NEXT_D = 2, CP1610_LIST_WORDS = 3 };
 enum cp1610_line { CP1610_LINE_WORDS = 3, CP1610_TEXT_ROOM = 16 };
+
+/* The most words of a record in an image file, of which the writer makes full ones, the last perhaps shorter; and the room that the longest
+ * file needs, that of 65,536 words. */
+enum cp1610_image { CP1610_RECORD_WORDS = 4096, CP1610_IMAGE_ROOM = 131176 };
 
 /* What the writing of a pair reports, both in bytes, and the room that its text needs, which is its length too, whatever the region. */
 enum cp1610_pair_report { CP1610_BIN_LENGTH = 0, CP1610_CFG_LENGTH = 1, CP1610_PAIR_WORDS = 2 };
@@ -163,13 +167,14 @@ uint64_t cp1610_list(const uint16_t *mem, size_t mem_length, const uint16_t *map
  * Refused by 6 for a line that is not one of the lister's. */
 uint64_t cp1610_assemble(const uint8_t *line, size_t line_length, uint8_t d, uint16_t *words, size_t words_length);
 
-/* Loads an image file for the board of this number. No map is asked: words of ROM are loaded too. The answer is 2^32 + the number of
- * records, which come below 2^32 in a file below 32 GiB.
- * Refused by 1 for a memory above 65,536 words, else by the file's first offence: 9 malformed, 10 another board's, 11 a record past
- * the memory, 12 the sum differs. */
+/* Loads an image file for the board of this number. Its records have 1 to 4,096 words each. No map is asked: words of ROM are loaded too.
+ * The answer is 2^32 + the number of records, which come below 2^32 in a file below 32 GiB.
+ * Refused by 1 for a memory above 65,536 words, else by the file's first offence: 9 malformed, as by a count of 0 or above 4,096, 10 another
+ * board's, 11 a record past the memory, 12 the sum differs. */
 uint64_t cp1610_load(uint16_t board, uint16_t *mem, size_t mem_length, const uint8_t *file, size_t file_length);
 
-/* Writes the words from first to last as an image file for a board. The answer is 2^32 + the file's length; the room past it stays.
+/* Writes the words from first to last as an image file for a board, in records of 4,096 words, the last perhaps shorter. The answer is 2^32 +
+ * the file's length, which is 8 bytes, 2 for each word and 6 for each record, at most CP1610_IMAGE_ROOM; the room past it stays.
  * Refused by 1 for a memory above 65,536 words, else by 7 for a first above last, else by 11 for a region past the memory, else by
  * 13 for a room that is too small. */
 uint64_t cp1610_write(uint16_t board, const uint16_t *mem, size_t mem_length, uint16_t first, uint16_t last, uint8_t *room,

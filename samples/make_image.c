@@ -10,7 +10,7 @@
 #include <string.h>
 
 static uint16_t memory[65536];
-static uint8_t file[131464];
+static uint8_t file[CP1610_IMAGE_ROOM];
 
 /* The length of a line without its remark and the blanks before it. */
 static size_t line_length(const char *line) {
