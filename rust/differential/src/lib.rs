@@ -8,6 +8,7 @@ mod damage;
 #[cfg(test)]
 mod fixpoint;
 mod image_calls;
+pub mod images;
 mod kit;
 mod listing_calls;
 mod machine_calls;

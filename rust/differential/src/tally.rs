@@ -56,6 +56,20 @@ pub(crate) enum Occasion {
     ManyRecordsLoaded,
     /// A file of more than three records, written.
     ManyRecordsWritten,
+    /// A record of 1,025 to 4,096 words, loaded, which was refused up to interface 5.
+    LongRecordLoaded,
+    /// A record of 4,096 words, loaded.
+    LongestRecordLoaded,
+    /// One of 4,097, for which alone a file was refused.
+    LongerRecordRefused,
+    /// A region of 1,025 to 4,096 words, written, which was more than one record up to interface 5.
+    LongRecordWritten,
+    /// A region of 4,096 words, written.
+    LongestRecordWritten,
+    /// One of several records that are all full.
+    FullRecordsWritten,
+    /// One of several records, of which the last has one word.
+    WordLeftWritten,
     /// A text of more than three mapping lines, loaded.
     ManyLinesLoaded,
     /// One with an empty line.
@@ -135,7 +149,7 @@ pub(crate) enum Occasion {
 }
 
 /// All of them, as they are printed.
-const OCCASIONS: [(Occasion, &str); 47] = [
+const OCCASIONS: [(Occasion, &str); 54] = [
     (Occasion::LongRun, "budgets of 5,000 to 999,997 spent"),
     (Occasion::LongWait, "limits of 64 to 4,095 with such a wait"),
     (Occasion::LongOver, "passed"),
@@ -145,6 +159,13 @@ const OCCASIONS: [(Occasion, &str); 47] = [
     (Occasion::DefaultMembers, "in one of members"),
     (Occasion::ManyRecordsLoaded, "files of more than three records loaded"),
     (Occasion::ManyRecordsWritten, "and written"),
+    (Occasion::LongRecordLoaded, "records of 1,025 to 4,096 words loaded"),
+    (Occasion::LongestRecordLoaded, "of 4,096"),
+    (Occasion::LongerRecordRefused, "of 4,097 refused"),
+    (Occasion::LongRecordWritten, "regions of 1,025 to 4,096 words written"),
+    (Occasion::LongestRecordWritten, "of 4,096"),
+    (Occasion::FullRecordsWritten, "of several full records"),
+    (Occasion::WordLeftWritten, "and one word"),
     (Occasion::ManyLinesLoaded, "texts of more than three mapping lines loaded"),
     (Occasion::EmptyLineLoaded, "with an empty line"),
     (Occasion::TargetsOverlap, "with two lines for one address"),
