@@ -6,6 +6,7 @@
 //! speed once WORKLOAD KIT    one round of one workload with one kit, which is what is run under callgrind
 //! ```
 
+mod images;
 mod instructions;
 mod measured;
 mod pairs;

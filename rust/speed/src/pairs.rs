@@ -1,7 +1,7 @@
 //! The workloads of pairs: a whole memory as one pair and as pairs of fewer words, each with a text of one line, and a text of many lines.
 
 use crate::measured::{Measured, digest, time_of};
-use crate::programs::made_up_words;
+use crate::programs::{made_up_words, regions};
 use cp1610::{CFG_ROOM, LONGEST_MEMORY};
 use differential::Kit;
 
@@ -16,36 +16,34 @@ struct Pair {
 }
 
 /// The ends of each region of so many words in a whole memory, and rooms for its pair.
-fn regions(words: usize) -> Vec<(u16, u16, Pair)> {
-    let pair = Pair { bin: vec![0; WORD * words], cfg: [0; CFG_ROOM] };
-    let firsts = (0..LONGEST_MEMORY).step_by(words);
-    firsts.map(|first| (first as u16, (first + words - 1) as u16, pair.clone())).collect()
+fn rooms(words: usize) -> Vec<(u16, u16, Pair)> {
+    regions(words, &Pair { bin: vec![0; WORD * words], cfg: [0; CFG_ROOM] })
 }
 
 pub fn write<K: Kit, const WORDS: usize>() -> Measured {
     let from = made_up_words();
-    let mut regions = regions(WORDS);
+    let mut rooms = rooms(WORDS);
     let mut written = 0;
     let time = time_of(|| {
-        for (first, last, pair) in &mut regions {
+        for (first, last, pair) in &mut rooms {
             written +=
                 K::write_pair(&from, *first, *last, &mut pair.bin, &mut pair.cfg).map_or(0, |lengths| lengths.bin);
         }
     });
-    Measured { units: (written / WORD) as u64, time, digest: digest(regions) }
+    Measured { units: (written / WORD) as u64, time, digest: digest(rooms) }
 }
 
 pub fn load<K: Kit, const WORDS: usize>() -> Measured {
     let from = made_up_words();
-    let mut regions = regions(WORDS);
-    for (first, last, pair) in &mut regions {
+    let mut pairs = rooms(WORDS);
+    for (first, last, pair) in &mut pairs {
         handwritten::write_pair(&from, *first, *last, &mut pair.bin, &mut pair.cfg)
             .expect("the rooms are large enough");
     }
     let mut memory = vec![0; LONGEST_MEMORY];
     let mut lines = 0;
     let time = time_of(|| {
-        for (_, _, pair) in &regions {
+        for (_, _, pair) in &pairs {
             lines += K::load_pair(&mut memory, &pair.bin, &pair.cfg).unwrap_or(0);
         }
     });

@@ -144,6 +144,12 @@ pub fn made_up_words() -> Vec<u16> {
     (0..LONGEST_MEMORY).map(|_| next()).collect()
 }
 
+/// The ends of each region of so many words in a whole memory, and a room for what is made of it.
+pub fn regions<R: Clone>(words: usize, room: &R) -> Vec<(u16, u16, R)> {
+    let firsts = (0..LONGEST_MEMORY).step_by(words);
+    firsts.map(|first| (first as u16, (first + words - 1) as u16, room.clone())).collect()
+}
+
 /// A whole memory of made-up opcodes. Seven out of eight that name R7 name R6 instead, so that most paths go on.
 pub fn made_up_code() -> Vec<u16> {
     let opcode = |word| if word % 8 == 7 && word < 0xE000 { word - 1 } else { word } % 0x400;

@@ -2,9 +2,10 @@
 //! kits: memory is written in full before a run, and cleared before a load; a room for a file is cleared before a write. A board is made
 //! then too, as a program makes one for many calls; it is all-RAM unless the workload says another.
 
+use crate::images;
 use crate::measured::{Measured, digest, time_of};
 use crate::pairs;
-use crate::programs::{self, BOARD, Program, SIX_RANGES, made_up_words, sixteen_ranges};
+use crate::programs::{self, Program, SIX_RANGES, made_up_words, sixteen_ranges};
 use crate::reaching;
 use cp1610::{HIGHEST_BUDGET, HIGHEST_LIMIT, LONGEST_MEMORY, Lines, Range, TEXT_ROOM};
 use differential::{Handwritten, Kit, Proved};
@@ -30,7 +31,7 @@ macro_rules! workload {
     };
 }
 
-pub const WORKLOADS: [Workload; 43] = [
+pub const WORKLOADS: [Workload; 49] = [
     workload!("run-alu", "step", run_alu),
     workload!("run-copy", "step", run_copy),
     workload!("run-mixed", "step", run_mixed),
@@ -52,9 +53,15 @@ pub const WORKLOADS: [Workload; 43] = [
     workload!("region-long-walks", "row", region_long_walks),
     workload!("list", "line", list),
     workload!("assemble", "line", assemble),
-    workload!("load", "word", load),
-    workload!("write", "word", write),
-    workload!("write-and-load-16", "file", small_files),
+    workload!("load-16", "word", images::load, 16),
+    workload!("load-1024", "word", images::load, 1_024),
+    workload!("load-4096", "word", images::load, 4_096),
+    workload!("load", "word", images::load, 65_536),
+    workload!("write-16", "word", images::write, 16),
+    workload!("write-1024", "word", images::write, 1_024),
+    workload!("write-4096", "word", images::write, 4_096),
+    workload!("write", "word", images::write, 65_536),
+    workload!("write-and-load-16", "file", images::write_and_load),
     workload!("load-pair-16", "word", pairs::load, 16),
     workload!("load-pair-1024", "word", pairs::load, 1_024),
     workload!("load-pair", "word", pairs::load, 65_536),
@@ -207,43 +214,4 @@ fn assemble<K: Kit>() -> Measured {
         }
     });
     Measured { units: lines.len() as u64, time, digest: digest(format!("{words:?}")) }
-}
-
-/// The bytes of a file with 65,536 words in records of 1,024.
-const FILE_LENGTH: usize = 131_464;
-
-fn load<K: Kit>() -> Measured {
-    let words = made_up_words();
-    let mut file = vec![0; FILE_LENGTH];
-    handwritten::write(BOARD, &words, 0, u16::MAX, &mut file).expect("the room is large enough");
-    let mut memory = vec![0; LONGEST_MEMORY];
-    let mut records = 0;
-    let time = time_of(|| records = K::load(BOARD, &mut memory, &file).unwrap_or(0));
-    Measured { units: LONGEST_MEMORY as u64, time, digest: digest((records, memory)) }
-}
-
-fn write<K: Kit>() -> Measured {
-    let words = made_up_words();
-    let mut room = vec![0; FILE_LENGTH];
-    let mut length = 0;
-    let time = time_of(|| length = K::write(BOARD, &words, 0, u16::MAX, &mut room).unwrap_or(0));
-    Measured { units: LONGEST_MEMORY as u64, time, digest: digest((length, room)) }
-}
-
-/// Files of 16 words each, written and loaded: what a call costs beside its words.
-fn small_files<K: Kit>() -> Measured {
-    const WORDS: u16 = 16;
-    const FILES: u16 = 1_024;
-    let words = made_up_words();
-    let mut memory = vec![0; LONGEST_MEMORY];
-    let mut room = [0; 8 + 6 + 2 * WORDS as usize];
-    let mut loaded = 0;
-    let time = time_of(|| {
-        for n in 0..FILES {
-            let first = n * WORDS;
-            let length = K::write(BOARD, &words, first, first + WORDS - 1, &mut room).unwrap_or(0);
-            loaded += K::load(BOARD, &mut memory, &room[..length]).unwrap_or(0);
-        }
-    });
-    Measured { units: FILES.into(), time, digest: digest((loaded, memory)) }
 }
