@@ -2,10 +2,11 @@
 use crate::build;
 use crate::build::Memory;
 use crate::build::Room;
+use crate::pattern;
+use crate::pieces;
 use crate::row;
 use crate::row::Answer;
 use crate::row::Call;
-use harness::bytes;
 use harness::fields;
 use harness::text;
 use harness::words;
@@ -85,8 +86,8 @@ pub(crate) fn load_is_well(
 ) -> bool {
     build::put_memory(memory, before);
     build::put_memory(twin, before);
-    words::put(twin, after);
-    let length = bytes::put(room, fields::value(before, b"file"));
+    build::put_words(twin, after);
+    let length = pieces::put(room, fields::value(before, b"file"));
     let wanted = row::answer_of(after, b"records");
     let loaded = loads(row::call_of(before), memory, room, length, wanted);
     row::is_load(before, after) & loaded & words::same(memory, twin)
@@ -103,13 +104,14 @@ pub(crate) fn write_is_well(
     build::put_memory(memory, before);
     build::blank_room(room);
     build::blank_room(mirror);
-    bytes::put(mirror, fields::value(after, b"file"));
+    pieces::put(mirror, fields::value(after, b"file"));
     let wanted = row::answer_of(after, b"length");
     let written = writes(row::call_of(before), memory, room, wanted);
     row::is_write(before, after) & written & text::same(room, mirror)
 }
 
-// A region is written into a room of just so many bytes, and loaded for the same board into other memory.
+// The pattern's region is written into a room of just so many bytes, and loaded for the same board into other memory. What is to come
+// back then stands where the pattern was.
 pub(crate) fn trip_is_well(
     before: &[u8],
     after: &[u8],
@@ -119,7 +121,7 @@ pub(crate) fn trip_is_well(
 ) -> bool {
     let call = row::call_of(before);
     let bytes = call.bytes;
-    build::put_pattern(memory);
+    pattern::put(memory, 0, 0xFFFF);
     let whole = Answer {
         refused: false,
         number: bytes,
@@ -127,12 +129,7 @@ pub(crate) fn trip_is_well(
     let written = writes(call, memory, room, whole);
     build::put_memory(twin, before);
     let loaded = loads(call, twin, room, bytes, row::answer_of(after, b"records"));
-    let back = build::is_back(
-        memory,
-        twin,
-        call.first,
-        call.last,
-        build::background(before),
-    );
-    row::is_trip(before, after) & written & loaded & back
+    build::put_memory(memory, before);
+    pattern::put(memory, call.first, call.last);
+    row::is_trip(before, after) & written & loaded & words::same(memory, twin)
 }

@@ -2,6 +2,8 @@
 // The cases stand in the file `stdin`, whose head says how a case is written.
 mod build;
 mod call;
+mod pattern;
+mod pieces;
 mod row;
 
 use harness::fields;

@@ -1,4 +1,6 @@
 // The rows of a case: whether they are as the head of `stdin` says, the call that they tell, and its answer.
+use crate::pattern;
+use crate::pieces;
 use harness::answer;
 use harness::fields;
 use harness::form;
@@ -44,25 +46,43 @@ pub(crate) fn answer_of(after: &[u8], key: &[u8]) -> Answer {
     }
 }
 
+// Whether the words that a row tells lie inside a memory of so many words.
+fn are_inside(row: &[u8], size: usize) -> bool {
+    let range = fields::value(row, b"pattern");
+    words::are_inside(row, size)
+        & (!fields::has(row, b"pattern")
+            | (pattern::is_range(range) & ((pattern::last_of(range) as usize) < size)))
+}
+
+fn has_file(row: &[u8]) -> bool {
+    pieces::are_pieces(fields::value(row, b"file"))
+}
+
 pub(crate) fn is_load(before: &[u8], after: &[u8]) -> bool {
     let words = fields::number(before, b"size", 65536) as usize;
     form::fit(
         before,
-        b"board=word size=number fill=word 0000=list file=hex",
+        b"board=word size=number fill=word 0000=list pattern=any file=any",
     )
-        & answer::fit(after, b"loaded", b"answer=any records=number 0000=list")
-        & words::are_inside(before, words)
-        & words::are_inside(after, words)
+        & answer::fit(
+            after,
+            b"loaded",
+            b"answer=any records=number 0000=list pattern=any",
+        )
+        & are_inside(before, words)
+        & are_inside(after, words)
+        & has_file(before)
 }
 
 pub(crate) fn is_write(before: &[u8], after: &[u8]) -> bool {
     let words = fields::number(before, b"size", 65536) as usize;
     form::fit(
         before,
-        b"board=word size=number fill=word 0000=list first=word last=word room=number",
+        b"board=word size=number fill=word 0000=list pattern=any first=word last=word room=number",
     )
-        & answer::fit(after, b"written", b"answer=any length=number file=hex")
-        & words::are_inside(before, words)
+        & answer::fit(after, b"written", b"answer=any length=number file=any")
+        & are_inside(before, words)
+        & has_file(after)
 }
 
 pub(crate) fn is_trip(before: &[u8], after: &[u8]) -> bool {
