@@ -9,4 +9,6 @@ pub mod EmitLaws
 pub mod OutcomeLaws
 pub mod TripLaws
 pub mod DamageLaws
+pub mod LimitLaws
+pub mod LimitExamples
 pub mod Examples

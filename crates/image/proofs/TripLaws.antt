@@ -31,9 +31,9 @@ use Rattle.image.specs.Read.{Opening, opened, headOf, recordPart, tailPa
 use Rattle.image.specs.Read.{follow, bodyOf}
 use Rattle.image.specs.Load.{isFor, sumAgrees, sumTested, boardTested, loadWith}
 use Rattle.image.specs.Write.{Writing, refuseWrite, writing, regionImage, writeWith}
-use Rattle.image.specs.Laws.{ReadsBack, WrittenLays, OwnLays, RoundTrip, OwnRoundTrip, isRight, OtherBoard, OwnOtherBoard}
+use Rattle.image.specs.Laws.{ReadsBack, WrittenFile, WrittenLays, OwnLays, RoundTrip, OwnRoundTrip, isRight, OtherBoard, OwnOtherBoard}
 use Rattle.image.proofs.ReadLaws.{body-law}
-use Rattle.image.proofs.LoadLaws.{load-head, one-board}
+use Rattle.image.proofs.LoadLaws.{one-board}
 use Rattle.image.proofs.HeadLaws.{own-head}
 
 -- Reading what is written: a record at the front of the bytes, and the tail.
@@ -134,10 +134,11 @@ module _ (opening : List ℕ → Opening) (head : ImageHead) (back : ReadsBack o
       by-place true = cond-true _ _ (sum-right (headSum head) rs)
       by-place false = refl
 
-  load-elsewhere : length n ≤ 65536 → isFor head board ≡ false → loadWith opening limit board n (imageOf head rs) ≡ refuseLoad n WrongBoard
-  load-elsewhere h f =
-      load-head opening limit board n (imageOf head rs) (le-ltb 65536 (length n) h) image-opens
-      ∙ cond-false _ _ f
+  load-elsewhere : isFor head board ≡ false
+      → loadWith opening limit board n (imageOf head rs) ≡ cond (tooLong n) (refuseLoad n MemoryTooLong) (refuseLoad n WrongBoard)
+  unfolding loadWith
+  load-elsewhere f =
+      ap (cond (tooLong n) (refuseLoad n MemoryTooLong)) (ap (boardTested limit board n (imageOf head rs)) image-opens ∙ cond-false _ _ f)
 
 -- The writer answers a length only if no test refuses.
 record Made (head : ImageHead) (cut : ℕ) (m : List ℕ) (first last : ℕ) (file : List ℕ) : Type 0 where
@@ -202,6 +203,14 @@ written-lays opening head back board here cut limit p q m first last file k n =
     ∙ load-image opening head back limit (cutOf cut first (wordsBetween m first last)) board n here (region-sized cut limit p q m first last o i)
     ∙ ap (cond (tooLong n) (refuseLoad n MemoryTooLong)) (region-laid cut limit p q m first last o i n)
 
+-- .. for a board that its head does not name
+pub written-elsewhere : (opening : List ℕ → Opening) (head : ImageHead) → ReadsBack opening head → (board : ℕ) → isFor head board ≡ false → (cut limit : ℕ)
+    → (m : List ℕ) (first last : ℕ) (file : List ℕ) → WrittenFile head cut m first last file → (n : List ℕ)
+    → loadWith opening limit board n file ≡ cond (tooLong n) (refuseLoad n MemoryTooLong) (refuseLoad n WrongBoard)
+written-elsewhere opening head back board away cut limit m first last file k n =
+    let w = made head cut m first last file (k .room) (k .answer) (k .bytes) in
+    ap (loadWith opening limit board n) (w .is) ∙ load-elsewhere opening head back limit (cutOf cut first (wordsBetween m first last)) board n away
+
 pub round-trip : RoundTrip
 round-trip opening head back board here cut limit p q m first last file k n h l =
     let w = made head cut m first last file (k .room) (k .answer) (k .bytes) .region in
@@ -219,7 +228,7 @@ other-board opening head back other away cut limit p q m first last file k n h =
     let b =
     image-body limit (length m) head rs (region-sized cut limit p q m first last o i)
     ∙ cond-true _ _ (cut-laws .within cut first (wordsBetween m first last) (length m) p (region-within m first last o i (length m) i)) in (
-      ap (loadWith opening limit other n) (w .is) ∙ load-elsewhere opening head back limit rs other n h away,
+      written-elsewhere opening head back other away cut limit m first last file k n ∙ cond-false _ _ (le-ltb 65536 (length n) h),
       rw (w .is) (ap (isRight (headSum head)) b ∙ sum-right (headSum head) rs),
     )
 

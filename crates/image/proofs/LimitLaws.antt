@@ -1,0 +1,209 @@
+-- Two cuts of a region, and two limits of a record's words.
+use Prim.Native.Nat.{ℕ, zero, suc, _+_, _<_, _≤_}
+use mathlib.Core.Path.{_≡_, refl, sym, ap, _∙_}
+use mathlib.Core.Bool.{Bool, true, false, cond}
+use mathlib.Core.List.{List}
+use mathlib.Core.Logic.{_⊎_, inl, inr, ⊎-elim}
+use native.Mathlib.Omega.{arith}
+use native.Mathlib.Decide.{decLe}
+use lib.Dec.{eqb, ltb, lit<, lit≤}
+use lib.ListN.{length, take, drop}
+use lib.Seq.{take-append-seam}
+use borrow.Author.Tests.{eq-eqb, eqb-true, le-ltb, lt-ltb, ltb-false}
+use Rattle.refusal.specs.declared.Refusal.the-variants.{MalformedImage, MemoryTooLong, WrongBoard, PastMemory}
+use Rattle.refusal.specs.Report.{refused, answered}
+use Rattle.memory.specs.declared.Admission.{Admission}
+use Rattle.memory.specs.Bus.{unlessBarred}
+use Rattle.memory.specs.Memory.{tooLong}
+use Rattle.word.proofs.Choice.{cond-false}
+use Rattle.bigendian.specs.Numbers.{wordAt}
+use Rattle.records.specs.Records.{isWithin, overwrite}
+use Rattle.records.specs.Loading.{Loading, refuseLoad, LoadedAlike}
+use Rattle.records.specs.Region.{spanOf, wordsBetween}
+use Rattle.records.specs.Cut.{recordCount}
+use Rattle.records.proofs.LoadLaws.{layings-alike}
+use Rattle.image.specs.Format.{recordLimit, atMark, addressAt, countAt, recordHeadBytes, recordBytes, recordAt, headSum, headLength, idHead}
+use Rattle.image.specs.Format.{ImageHead}
+use Rattle.image.specs.Read.{Opening, opened, unopened, headOf, Part, recordPart, tailPart, offencePart, placeOf, recordOf, partOf}
+use Rattle.image.specs.Read.{Body, broken, withRecord, follow, bodyFrom, bodyOf}
+use Rattle.image.specs.Load.{isFor, sumTested, boardTested, loadWith}
+use Rattle.image.specs.Write.{Writing, refuseWrite, writing, regionImage, writeWith}
+use Rattle.image.specs.Laws.{ReadsBack, WrittenFile}
+use Rattle.image.specs.Limits.{oldLimit, EveryRegionIsWritten, WritingsAlike, OldAndNewAlike, HigherLimitAlike, Counted, Meets, at-front, behind}
+use Rattle.image.specs.Limits.{SameUnlessBetween, OldImages, RoundTripAtEveryCut}
+use Rattle.image.proofs.LoadLaws.{one-board}
+use Rattle.image.proofs.HeadLaws.{own-head}
+use Rattle.image.proofs.TripLaws.{written-lays, written-elsewhere, round-trip}
+
+pub every-region-is-written : EveryRegionIsWritten
+unfolding writeWith writing overwrite
+every-region-is-written head cut m first last h =
+    let file = regionImage head cut m first last in
+    let w : writeWith head cut m first last file ≡ record { answer = answered (length file); room = overwrite file 0 file } =
+    ap (λ (a : Admission). unlessBarred a (refuseWrite file) (writing file file)) h ∙ cond-false _ _ (le-ltb (length file) (length file) (omega arith)) in
+    record {
+      room = file;
+      answer = ap (λ (x : Writing). x .answer) w;
+      bytes = ap (λ (x : Writing). take (length file) (x .room)) w ∙ take-append-seam file (drop (0 + length file) file);
+    }
+
+-- Two cuts.
+module _ (opening : List ℕ → Opening) (head : ImageHead) (back : ReadsBack opening head) (limit a b : ℕ) (pa : 0 < a) (qa : a ≤ limit) (pb : 0 < b) (qb : b ≤ limit)
+    (m : List ℕ) (first last : ℕ) (file other : List ℕ) (f : WrittenFile head a m first last file) (g : WrittenFile head b m first last other) (board : ℕ) (n : List ℕ) where
+  alike-by : (t : Bool) → isFor head board ≡ t → LoadedAlike (loadWith opening limit board n file) (loadWith opening limit board n other)
+  alike-by true here =
+      let span = spanOf first last in
+      rw (written-lays opening head back board here a limit pa qa m first last file f n, written-lays opening head back board here b limit pb qb m first last other g n)
+      (layings-alike (recordCount a span) (recordCount b span) n first (wordsBetween m first last))
+  alike-by false away =
+      rw (written-elsewhere opening head back board away a limit m first last file f n, written-elsewhere opening head back board away b limit m first last other g n)
+      (refused-alike (tooLong n))
+    where
+      refused-alike : (t : Bool) → LoadedAlike (cond t (refuseLoad n MemoryTooLong) (refuseLoad n WrongBoard)) (cond t (refuseLoad n MemoryTooLong) (refuseLoad n WrongBoard))
+      refused-alike true = record { memory = refl; answer = refl }
+      refused-alike false = record { memory = refl; answer = refl }
+
+pub writings-alike : WritingsAlike
+writings-alike opening head back limit a b pa qa pb qb m first last file other f g board n =
+    alike-by opening head back limit a b pa qa pb qb m first last file other f g board n (isFor head board) refl
+
+pub old-and-new-alike : OldAndNewAlike
+old-and-new-alike written m first last old new f g board n =
+    writings-alike headOf (idHead written) (own-head .back written) recordLimit oldLimit recordLimit (lit< tt) (lit≤ tt) (lit< tt) (lit≤ tt) m first last old new f g board n
+
+-- two choices of one test, each way of which is the same
+same-ways : (b : Bool) {x y x′ y′ : Part} → (b ≡ true → x ≡ x′) → (b ≡ false → y ≡ y′) → cond b x y ≡ cond b x′ y′
+same-ways true f g = f refl
+same-ways false f g = g refl
+
+-- Two limits.
+module _ (low high : ℕ) (h : low ≤ high) (len : ℕ) where
+  -- the first is malformed, or the second is the same
+  abbrev OrMalformed : Part → Part → Type 0
+  OrMalformed p q = (p ≡ offencePart MalformedImage) ⊎ (q ≡ p)
+
+  on-both : (b : Bool) {x y x′ y′ : Part} → OrMalformed x x′ → OrMalformed y y′ → OrMalformed (cond b x y) (cond b x′ y′)
+  on-both true p q = p
+  on-both false p q = q
+
+  place-higher : (bytes : List ℕ) (a c : ℕ) → OrMalformed (placeOf low len bytes a c) (placeOf high len bytes a c)
+  unfolding placeOf
+  place-higher bytes a c = on-both (eqb c 0) (inl refl) (go (decLe c low))
+    where
+      Rest : Part
+      Rest = cond (ltb (length bytes) (recordBytes c)) (offencePart MalformedImage) (cond (isWithin len a c) (recordPart a c) (offencePart PastMemory))
+
+      go : Dec (c ≤ low)
+          → OrMalformed (cond (ltb low c) (offencePart MalformedImage) Rest) (cond (ltb high c) (offencePart MalformedImage) Rest)
+      go (yes l) = rw (le-ltb low c l, le-ltb high c (omega arith)) (inr refl)
+      go (no l) = rw (lt-ltb low c (omega arith)) (inl refl)
+
+  part-higher : (bytes : List ℕ) → OrMalformed (partOf low len bytes) (partOf high len bytes)
+  unfolding partOf recordOf
+  part-higher bytes =
+      on-both (ltb (length bytes) 2) (inl refl)
+      (on-both (eqb (wordAt bytes 0) atMark)
+      (on-both (ltb (length bytes) recordHeadBytes) (inl refl) (place-higher bytes (wordAt bytes addressAt) (wordAt bytes countAt)))
+      (inr refl))
+
+  -- .. and so is a body
+  abbrev BodyOrMalformed : Body → Body → Type 0
+  BodyOrMalformed b d = (b ≡ broken MalformedImage) ⊎ (d ≡ b)
+
+  follow-higher : (on up : List ℕ → Body) → ((rest : List ℕ) → BodyOrMalformed (on rest) (up rest)) → (bytes : List ℕ) (p : Part)
+      → BodyOrMalformed (follow on bytes p) (follow up bytes p)
+  follow-higher on up ih bytes (recordPart a c) =
+      let r = recordAt a c bytes in
+      ⊎-elim (λ e. inl (ap (withRecord r) e)) (λ e. inr (ap (withRecord r) e)) (ih (drop (recordBytes c) bytes))
+  follow-higher on up ih bytes (tailPart s) = inr refl
+  follow-higher on up ih bytes (offencePart e) = inr refl
+
+  body-higher : (n : ℕ) (bytes : List ℕ) → BodyOrMalformed (bodyFrom n low len bytes) (bodyFrom n high len bytes)
+  body-higher zero bytes = inl refl
+  body-higher (suc n) bytes =
+      ⊎-elim (λ e. inl (ap (follow (bodyFrom n low len) bytes) e))
+      (λ e. rw e (follow-higher (bodyFrom n low len) (bodyFrom n high len) (body-higher n) bytes (partOf low len bytes)))
+      (part-higher bytes)
+
+  -- no count that is met lies between
+  abbrev NoneBetween : List ℕ → Type 0
+  NoneBetween bytes = (c : ℕ) → Meets high len bytes c → low < c → c ≤ high → ⊥
+
+  count-same : (bytes : List ℕ) → NoneBetween bytes → (c : ℕ) → Counted bytes c → ltb high c ≡ ltb low c
+  count-same bytes k c t = go (decLe c low) (decLe c high)
+    where
+      go : Dec (c ≤ low) → Dec (c ≤ high) → ltb high c ≡ ltb low c
+      go (yes l) y = le-ltb high c (omega arith) ∙ sym (le-ltb low c l)
+      go (no l) (yes y) = absurd (k c (at-front t) (omega arith) y)
+      go (no l) (no y) = lt-ltb high c (omega arith) ∙ sym (lt-ltb low c (omega arith))
+
+  part-same : (bytes : List ℕ) → NoneBetween bytes → partOf high len bytes ≡ partOf low len bytes
+  unfolding partOf recordOf placeOf
+  part-same bytes k =
+      same-ways (ltb (length bytes) 2) (λ e. refl) (λ e.
+      same-ways (eqb (wordAt bytes 0) atMark) (λ mark.
+      same-ways (ltb (length bytes) recordHeadBytes) (λ f. refl) (λ f.
+      rw (count-same bytes k (wordAt bytes countAt)
+      (record { size = ltb-false (length bytes) recordHeadBytes f; mark = eqb-true (wordAt bytes 0) atMark mark; states = refl })))) (λ f. refl))
+
+  follow-met : (on up : List ℕ → Body) (bytes : List ℕ) → NoneBetween bytes → ((rest : List ℕ) → NoneBetween rest → up rest ≡ on rest)
+      → (p : Part) → partOf high len bytes ≡ p → follow up bytes p ≡ follow on bytes p
+  follow-met on up bytes k ih (recordPart a c) e = ap (withRecord (recordAt a c bytes)) (ih (drop (recordBytes c) bytes) (λ d t. k d (behind e t)))
+  follow-met on up bytes k ih (tailPart s) e = refl
+  follow-met on up bytes k ih (offencePart r) e = refl
+
+  body-same : (n : ℕ) (bytes : List ℕ) → NoneBetween bytes → bodyFrom n high len bytes ≡ bodyFrom n low len bytes
+  body-same zero bytes k = refl
+  body-same (suc n) bytes k =
+      follow-met (bodyFrom n low len) (bodyFrom n high len) bytes k (body-same n) (partOf high len bytes) refl
+      ∙ ap (follow (bodyFrom n low len) bytes) (part-same bytes k)
+
+pub higher-limit-alike : HigherLimitAlike
+unfolding loadWith bodyOf
+higher-limit-alike opening low high h board m file = by-length (tooLong m) (opening file)
+  where
+    by-board : (head : ImageHead) (t : Bool) → let end : ℕ → Loading = λ limit.
+        cond t (sumTested m (headSum head) (bodyOf limit (length m) (drop (headLength head) file))) (refuseLoad m WrongBoard) in
+        (end low .answer ≡ refused 9 → ⊥) → end high ≡ end low
+    by-board head true k =
+        let bytes = drop (headLength head) file in
+        ⊎-elim (λ e. absurd (k (ap (λ (b : Body). sumTested m (headSum head) b .answer) e))) (λ e. ap (sumTested m (headSum head)) e)
+        (body-higher low high h (length m) (length bytes) bytes)
+    by-board head false k = refl
+
+    by-length : (t : Bool) (o : Opening) → let end : ℕ → Loading = λ limit. cond t (refuseLoad m MemoryTooLong) (boardTested limit board m file o) in
+        (end low .answer ≡ refused 9 → ⊥) → end high ≡ end low
+    by-length true o k = refl
+    by-length false (unopened e) k = refl
+    by-length false (opened head) k = by-board head (isFor head board) k
+
+pub same-unless-between : SameUnlessBetween
+unfolding loadWith bodyOf
+same-unless-between opening low high h board m file k = by-length (tooLong m) refl (opening file) refl
+  where
+    by-board : tooLong m ≡ false → (head : ImageHead) → opening file ≡ opened head → (t : Bool) → isFor head board ≡ t → let end : ℕ → Loading = λ limit.
+        cond t (sumTested m (headSum head) (bodyOf limit (length m) (drop (headLength head) file))) (refuseLoad m WrongBoard) in
+        end high ≡ end low
+    by-board f head o true e =
+        let bytes = drop (headLength head) file in
+        ap (sumTested m (headSum head)) (body-same low high h (length m) (length bytes) bytes (λ c t.
+        k c (record { fits = f; head = head; opens = o; here = e; meets = t })))
+    by-board f head o false e = refl
+
+    by-length : (t : Bool) → tooLong m ≡ t → (o : Opening) → opening file ≡ o
+        → let end : ℕ → Loading = λ limit. cond t (refuseLoad m MemoryTooLong) (boardTested limit board m file o) in
+        end high ≡ end low
+    by-length true f o e = refl
+    by-length false f (unopened r) e = refl
+    by-length false f (opened head) e = by-board f head e (isFor head board) refl
+
+pub old-images : OldImages
+old-images =
+    record {
+      not-nine = higher-limit-alike headOf oldLimit recordLimit (lit≤ tt);
+      none-between = same-unless-between headOf oldLimit recordLimit (lit≤ tt);
+    }
+
+pub round-trip-at-every-cut : RoundTripAtEveryCut
+round-trip-at-every-cut board cut p q =
+    round-trip headOf (idHead board) (own-head .back board) board (sym (one-board board board) ∙ eq-eqb board board refl) cut recordLimit p q
