@@ -9,7 +9,8 @@
 //!
 //! A text is always a row's last field, as it may have spaces; in a text of several lines `/` stands for a line feed and `^` for a carriage
 //! return. A board's map is a field too: `map=0000-00EF:ram8,5000-6FFF:rom`, the range that decides first at the front, or `map=none`. So is a
-//! set of addresses: `clear=0010,0012-0015`.
+//! set of addresses: `clear=0010,0012-0015`. `pattern=0100-10FF` gives many words that differ, and a file may have such words:
+//! `file=49440002415401001000,0100-10FF,4F4B6902`.
 //!
 //! What is left out has its default; what is not understood is an error. So each reader takes the fields that it knows from a row, and
 //! [`Fields::end`] finds what nobody took.
@@ -160,7 +161,7 @@ impl<'a> Fields<'a> {
         Ok(self.read_as(key, bit)?.unwrap_or(default))
     }
 
-    /// All words that are given at an address, as by `0100=02E4,0005`.
+    /// All words that are given at an address, as by `0100=02E4,0005`, and under them those of a part of the pattern.
     ///
     /// # Errors
     ///
@@ -174,6 +175,9 @@ impl<'a> Fields<'a> {
                     return Err(format!("two words are given at {at:04X}"));
                 }
             }
+        }
+        for at in self.read_as("pattern", part)?.into_iter().flatten() {
+            words.entry(at.into()).or_insert(pattern(at));
         }
         Ok(words)
     }
@@ -218,9 +222,32 @@ pub fn spans(value: &str) -> Option<Vec<RangeInclusive<u16>>> {
 
 /// `FIRST-LAST`, or one address.
 fn span(value: &str) -> Option<RangeInclusive<u16>> {
-    let (first, last) = value.split_once('-').unwrap_or((value, value));
-    let span = word(first)?..=word(last)?;
-    if span.is_empty() { None } else { Some(span) }
+    if value.contains('-') { part(value) } else { word(value).map(|address| address..=address) }
+}
+
+/// `FIRST-LAST`.
+fn part(value: &str) -> Option<RangeInclusive<u16>> {
+    let (first, last) = value.split_once('-')?;
+    let part = word(first)?..=word(last)?;
+    if part.is_empty() { None } else { Some(part) }
+}
+
+/// The word that the pattern has at an address, and at no other.
+pub fn pattern(address: u16) -> u16 {
+    address.wrapping_mul(259).wrapping_add(7)
+}
+
+/// The bytes of a file: pieces with commas between them.
+pub fn file(value: &str) -> Option<Vec<u8>> {
+    Some(value.split(',').map(piece).collect::<Option<Vec<_>>>()?.concat())
+}
+
+/// Bytes, or the pattern's words from an address to another.
+fn piece(value: &str) -> Option<Vec<u8>> {
+    if !value.contains('-') {
+        return bytes(value);
+    }
+    Some(part(value)?.flat_map(|address| pattern(address).to_be_bytes()).collect())
 }
 
 /// Ranges with commas between them, or `none`. Any ranges are taken, good or bad.
@@ -276,7 +303,7 @@ pub fn bit(value: &str) -> Option<bool> {
 
 #[cfg(test)]
 mod tests {
-    use super::{Fields, bytes, cases, lines, map, spans};
+    use super::{Fields, bytes, cases, file, lines, map, spans};
     use cp1610::Range;
 
     #[test]
@@ -312,6 +339,23 @@ mod tests {
         for value in ["", "0010,", "10", "0010-", "0015-0012", "0010--0015", "0010-0012-0015", "001a"] {
             assert_eq!(spans(value), None, "{value}");
         }
+    }
+
+    #[test]
+    fn a_file_is_a_list_of_pieces() {
+        assert_eq!(file("4944,0001-0002,4F"), Some(vec![0x49, 0x44, 0x01, 0x0A, 0x02, 0x0D, 0x4F]));
+        assert_eq!((file(""), file("FFFF-FFFF")), (Some(vec![]), Some(vec![0xFF, 0x04])));
+        for value in ["494", "4944,1", "0002-0001", "0001-", "1-2", "0001-0002-0003", "4g"] {
+            assert_eq!(file(value), None, "{value}");
+        }
+    }
+
+    #[test]
+    fn a_list_stands_over_the_pattern() {
+        let mut fields = Fields::read("0001=AAAA pattern=0000-0002").expect("the row is of the form");
+        assert_eq!(fields.words().map(Vec::from_iter), Ok(vec![(0, 0x0007), (1, 0xAAAA), (2, 0x020D)]));
+        assert_eq!(fields.end(), Ok(()));
+        assert!(Fields::read("pattern=0001").expect("the row is of the form").words().is_err());
     }
 
     #[test]

@@ -1,7 +1,7 @@
 //! What the cases of images and of pairs share.
 
 use super::{FILL, ends, memory, put_words, same, same_items, wanted};
-use crate::rows::Fields;
+use crate::rows::{Fields, pattern};
 use cp1610::{LONGEST_MEMORY, Refusal};
 
 /// What a room for a file holds before the call.
@@ -48,7 +48,7 @@ impl Trip {
     pub fn read(before: &mut Fields) -> Result<Trip, String> {
         let (first, last) = ends(before)?;
         let size = before.number("size", LONGEST_MEMORY)?;
-        let from = (0..size).map(|at| (at as u16).wrapping_mul(259).wrapping_add(7)).collect();
+        let from = (0..size).map(|at| pattern(at as u16)).collect();
         Ok(Trip { first, last, from, to: vec![before.word("fill", FILL)?; size] })
     }
 

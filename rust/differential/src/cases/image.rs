@@ -13,7 +13,7 @@ const COUNTED: &str = "records";
 
 pub(super) fn load<K: Kit>(before: &mut Fields, after: &mut Fields) -> Result<(), String> {
     let board = before.word("board", USUAL_BOARD)?;
-    let file = before.read_as("file", rows::bytes)?.unwrap_or_default();
+    let file = before.read_as("file", rows::file)?.unwrap_or_default();
     files::load(before, after, COUNTED, |memory| K::load(board, memory, &file))
 }
 
@@ -24,7 +24,7 @@ pub(super) fn write<K: Kit>(before: &mut Fields, after: &mut Fields) -> Result<(
         if answer != "written" {
             return Ok(None);
         }
-        room.want(&after.read_as("file", rows::bytes)?.unwrap_or_default())?;
+        room.want(&after.read_as("file", rows::file)?.unwrap_or_default())?;
         after.number("length", 0).map(Some)
     })?;
     same("answer", K::write(board, &memory, first, last, &mut room.lent), wanted)?;
