@@ -4,7 +4,9 @@ use mathlib.Core.Path.{_≡_, refl, _∙_}
 use mathlib.Core.List.{List}
 use native.Mathlib.Omega.{arith}
 use lib.Dec.{lit<, lit≤}
-use lib.ListN.{drop}
+use lib.ListN.{length, drop}
+use borrow.Author.Tests.{le-ltb}
+use Rattle.word.proofs.Choice.{cond-true, cond-false}
 use Rattle.refusal.specs.Report.{refused, answered}
 use Rattle.memory.specs.declared.Admission.the-variants.{Admitted}
 use Rattle.bigendian.specs.Numbers.{wordAt}
@@ -12,15 +14,25 @@ use Rattle.records.specs.Records.{overwrite}
 use Rattle.records.specs.Loading.{laying}
 use Rattle.records.specs.Region.{spanOf, wordsBetween, regionAdmission}
 use Rattle.records.specs.Cut.{cutOf, recordCount}
-use Rattle.image.specs.Format.{recordLimit, idHead, imageOf}
+use Rattle.image.specs.Format.{recordLimit, recordBytes, idHead, imageOf}
 use Rattle.image.specs.Read.{opened, headOf, recordPart, placeOf, recordOf, partOf, bodyOf}
 use Rattle.image.specs.Load.{loadWith}
 use Rattle.image.specs.Write.{regionImage}
 use Rattle.image.specs.Laws.{WrittenFile}
-use Rattle.image.specs.Limits.{oldLimit, oldLoadOf, Meets, at-front, behind, FileMeets, longRegion, clearedMemory, LongRegion, longerFile, LongerRecord}
+use Rattle.image.specs.Limits.{oldLimit, oldLoadOf, Counted, Meets, at-front, behind, FileMeets, WorkedCounts, longRegion, clearedMemory, LongRegion, longerFile, LongerRecord}
 use Rattle.image.proofs.HeadLaws.{own-head}
 use Rattle.image.proofs.TripLaws.{written-lays}
 use Rattle.image.proofs.LimitLaws.{every-region-is-written}
+
+pub worked-counts : WorkedCounts
+unfolding placeOf
+worked-counts =
+    record {
+      taken = λ len bytes address h w. cond-false _ _ (le-ltb (length bytes) (recordBytes 4096) h) ∙ cond-true _ _ w;
+      refused = λ len bytes address. refl;
+      one-record = refl;
+      two-records = refl;
+    }
 
 abbrev fileAt : ℕ → List ℕ
 fileAt cut = regionImage (idHead 2) cut longRegion 0 1024
@@ -46,16 +58,17 @@ refused-new : oldLoadOf 2 clearedMemory (fileAt recordLimit) ≡ record { answer
 unfolding loadWith headOf imageOf cutOf wordAt placeOf recordOf partOf bodyOf
 refused-new = refl
 
-met : FileMeets headOf recordLimit 2 clearedMemory (fileAt recordLimit) 1025
+-- a record's head behind the file's is met
+met-by : (file : List ℕ) (count : ℕ) → headOf file ≡ opened (idHead 2) → Counted (drop 4 file) count → FileMeets headOf recordLimit 2 clearedMemory file count
+met-by file count o c = record { fits = refl; head = idHead 2; opens = o; here = refl; meets = at-front c }
+
+first-old : FileMeets headOf recordLimit 2 clearedMemory (fileAt oldLimit) 1024
 unfolding headOf imageOf cutOf wordAt
-met =
-    record {
-      fits = refl;
-      head = idHead 2;
-      opens = refl;
-      here = refl;
-      meets = at-front (record { size = lit≤ tt; mark = refl; states = refl });
-    }
+first-old = met-by (fileAt oldLimit) 1024 refl (record { size = lit≤ tt; mark = refl; states = refl })
+
+first-new : FileMeets headOf recordLimit 2 clearedMemory (fileAt recordLimit) 1025
+unfolding headOf imageOf cutOf wordAt
+first-new = met-by (fileAt recordLimit) 1025 refl (record { size = lit≤ tt; mark = refl; states = refl })
 
 pub long-region : LongRegion
 long-region =
@@ -65,10 +78,11 @@ long-region =
       written-old = written-at oldLimit;
       written-new = written-at recordLimit;
       loads-old = loaded-at oldLimit recordLimit (lit< tt) (lit≤ tt);
+      first-old = first-old;
       loads-new = loaded-at recordLimit recordLimit (lit< tt) (lit≤ tt);
       took-old = loaded-at oldLimit oldLimit (lit< tt) (lit≤ tt);
       refused-new = refused-new;
-      met = met;
+      first-new = first-new;
     }
 
 -- The record of longerFile is an offence, so nothing behind it is met.
@@ -96,14 +110,7 @@ pub longer-record : LongerRecord
 unfolding loadWith headOf wordAt placeOf recordOf partOf bodyOf
 longer-record =
     record {
-      met =
-          record {
-            fits = refl;
-            head = idHead 2;
-            opens = refl;
-            here = refl;
-            meets = at-front (record { size = lit≤ tt; mark = refl; states = refl });
-          };
+      met = met-by longerFile 4097 refl (record { size = lit≤ tt; mark = refl; states = refl });
       none-between = none-between;
       refused-now = refl;
     }

@@ -1,11 +1,12 @@
--- Document 01, "Image records": "`ID` board; any number of `AT` address, count 1 to 4,096, words; `OK` sum; end."
+-- Document 01, "Image records", as document 02 amends it: "`ID` board; any number of `AT` address, count 1 to 4,096, words; `OK` sum; end."
 use Prim.Native.Nat.{ℕ, _+_, _*_, _%_}
 use mathlib.Core.List.{List, [], _∷_, _++_}
 use lib.ListN.{length, drop}
 use Rattle.bigendian.specs.Numbers.{wordsOf, bytesOf, total}
 use Rattle.records.specs.Records.{Record, recordOver}
 
--- "count 1 to 4,096". Each definition of a file takes the limit as an argument; this is the one of the loader and the writer.
+-- "count 1 to 4,096": document 02, [7] raises it from 1,024. Each definition of a file takes the limit as an argument; this is the one of
+-- the loader and the writer.
 abbrev pub recordLimit : ℕ
 recordLimit = 4096
 

@@ -6,14 +6,17 @@ use mathlib.Core.Path.{_≡_}
 use mathlib.Core.Bool.{true, false}
 use mathlib.Core.List.{List, [], _∷_}
 use lib.ListN.{length, drop, replicate}
+use Rattle.refusal.specs.declared.Refusal.the-variants.{MalformedImage}
 use Rattle.refusal.specs.Report.{refused, answered}
 use Rattle.memory.specs.declared.Admission.the-variants.{Admitted}
 use Rattle.memory.specs.Memory.{tooLong}
 use Rattle.bigendian.specs.Numbers.{wordAt}
+use Rattle.records.specs.Records.{isWithin}
+use Rattle.records.specs.Cut.{recordCount}
 use Rattle.records.specs.Loading.{Loading, LoadedAlike}
 use Rattle.records.specs.Region.{regionAdmission}
 use Rattle.image.specs.Format.{recordLimit, atMark, countAt, recordHeadBytes, recordBytes, ImageHead, idHead, headLength}
-use Rattle.image.specs.Read.{Opening, opened, headOf, recordPart, partOf}
+use Rattle.image.specs.Read.{Opening, opened, headOf, recordPart, offencePart, placeOf, partOf}
 use Rattle.image.specs.Load.{isFor, loadWith, loadOf}
 use Rattle.image.specs.Write.{regionImage}
 use Rattle.image.specs.Laws.{ReadsBack, WrittenFile, RoundTripAt}
@@ -21,6 +24,18 @@ use Rattle.image.specs.Laws.{ReadsBack, WrittenFile, RoundTripAt}
 -- document 01's limit up to this request
 abbrev pub oldLimit : ℕ
 oldLimit = 1024
+
+-- "The worked counts in 01 move to 4,096 and 4,097": the first is taken, where the words are there and lie within, the second is refused
+-- whatever they are; and so many words are written as one record and as two
+pub record WorkedCounts : Type 0 where
+  pub taken :
+      (len : ℕ) (bytes : List ℕ) (address : ℕ) →
+      recordBytes 4096 ≤ length bytes →
+      isWithin len address 4096 ≡ true →
+      placeOf recordLimit len bytes address 4096 ≡ recordPart address 4096
+  pub refused : (len : ℕ) (bytes : List ℕ) (address : ℕ) → placeOf recordLimit len bytes address 4097 ≡ offencePart MalformedImage
+  pub one-record : recordCount recordLimit 4096 ≡ 1
+  pub two-records : recordCount recordLimit 4097 ≡ 2
 
 -- the loader as it was
 abbrev pub oldLoadOf : ℕ → List ℕ → List ℕ → Loading
@@ -126,13 +141,14 @@ pub record LongRegion : Type 0 where
   pub new : List ℕ
   pub written-old : WrittenFile (idHead 2) oldLimit longRegion 0 1024 old
   pub written-new : WrittenFile (idHead 2) recordLimit longRegion 0 1024 new
-  -- by two records and by one
+  -- by two records, the first of 1,024 words, and by one
   pub loads-old : loadOf 2 clearedMemory old ≡ record { answer = answered 2; memory = longRegion }
+  pub first-old : FileMeets headOf recordLimit 2 clearedMemory old 1024
   pub loads-new : loadOf 2 clearedMemory new ≡ record { answer = answered 1; memory = longRegion }
   -- the loader as it was took the one, and refused the other for its count, which is met
   pub took-old : oldLoadOf 2 clearedMemory old ≡ record { answer = answered 2; memory = longRegion }
   pub refused-new : oldLoadOf 2 clearedMemory new ≡ record { answer = refused 9; memory = clearedMemory }
-  pub met : FileMeets headOf recordLimit 2 clearedMemory new 1025
+  pub first-new : FileMeets headOf recordLimit 2 clearedMemory new 1025
 
 -- a record that states 4,097 words, and has none
 abbrev pub longerFile : List ℕ
