@@ -99,8 +99,8 @@ enum cp1610_region_report {
 enum cp1610_list_report { CP1610_TEXT_LENGTH = 0, CP1610_WORDS_USED = 1, CP1610_NEXT_D = 2, CP1610_LIST_WORDS = 3 };
 enum cp1610_line { CP1610_LINE_WORDS = 3, CP1610_TEXT_ROOM = 16 };
 
-/* The most words of a record in an image file, of which the writer makes full ones, the last perhaps shorter; and the room that the longest
- * file needs, that of 65,536 words. */
+/* The most words of a record in an image file: the writer makes full records, the last perhaps shorter. And the room that takes every file
+ * that is written; a file that is loaded may be longer. */
 enum cp1610_image { CP1610_RECORD_WORDS = 4096, CP1610_IMAGE_ROOM = 131176 };
 
 /* What the writing of a pair reports, both in bytes, and the room that its text needs, which is its length too, whatever the region. */

@@ -4,8 +4,8 @@ use mathlib.Core.Path.{_≡_, refl, ap, _∙_}
 use mathlib.Core.List.{List, [], _∷_, _++_, append-nil}
 use native.Mathlib.Omega.{arith}
 use native.Mathlib.Nat.{le-of-suc-le-suc, not-suc-le-zero}
-use lib.ListN.{length, getD, take, drop, length-take}
-use lib.Seq.{sets, getD-drop, take-all, drop-drop}
+use lib.ListN.{length, getD, take, drop, set, length-take}
+use lib.Seq.{sets, getD-drop, getD-set-other, take-all, drop-drop}
 use Rattle.bigendian.specs.Numbers.{wordAt, wordsOf, allWords, bytesOf, fitting, putWords}
 use Rattle.bigendian.specs.Laws.{NumberLaws}
 
@@ -14,6 +14,11 @@ unfolding wordAt
 word-drop l n i =
     let e : n + i + 1 ≡ n + (i + 1) = omega arith in
     rw (getD-drop n l i 0, getD-drop n l (i + 1) 0, e)
+
+-- a changed byte leaves the words that it is not in
+pub word-kept : (l : List ℕ) (i b j : ℕ) → j + 2 ≤ i → wordAt (set l i b) j ≡ wordAt l j
+unfolding wordAt
+word-kept l i b j h = rw (getD-set-other l i j b 0 (λ e. omega arith), getD-set-other l i (j + 1) b 0 (λ e. omega arith))
 
 pub words-at : (c : ℕ) (l : List ℕ) (i : ℕ) → i < c → getD (wordsOf c l) i 0 ≡ wordAt l (i * 2)
 words-at zero l i h = absurd (not-suc-le-zero h)

@@ -45,8 +45,8 @@ fn exchanged(word: u16) -> u16
     word % 256 * 256 + word / 256
 }
 
-// A number in two bytes of a room, the low byte first.
-fn put_low_first(room: &mut [u8], at: usize, word: u16)
+// A number in two bytes of a room, little-endian: the low byte first.
+fn put_little_endian(room: &mut [u8], at: usize, word: u16)
     requires { ⌜ at + 2 ≤ length (now room) ⌝ }
     ensures { λ r. ⌜ now (room .exit) ≡ sets (now (room .entry)) at (word % 256 ∷ word / 256 ∷ []) ⌝ }
 {
@@ -54,12 +54,12 @@ fn put_low_first(room: &mut [u8], at: usize, word: u16)
     room[at + 1] = (word / 256) as u8;
 }
 
-// A number in two bytes of a room. The compiler makes one store of two bytes only where the low one comes first, so they are exchanged.
+// A number in two bytes of a room. The compiler makes one store of the two only where the low one comes first, so they are exchanged.
 fn put_pair(room: &mut [u8], at: usize, word: u16)
     requires { ⌜ at + 2 ≤ length (now room) ⌝ }
     ensures { λ r. ⌜ now (room .exit) ≡ sets (now (room .entry)) at (bytesOf (word ∷ [])) ⌝ }
 {
-    put_low_first(room, at, exchanged(word));
+    put_little_endian(room, at, exchanged(word));
 }
 
 // A number put at a place, if the room has both its bytes.
@@ -94,8 +94,8 @@ pub fn put_words(room: &mut [u8], at: usize, words: &[u16]) -> u16
     sum
 }
 
-// The number at a place, if its low byte came first. The compiler makes one load of its two bytes, and of `word_at` in a loop two.
-fn low_first_at(bytes: &[u8], at: usize) -> u16
+// The number at a place, read as little-endian. The compiler makes one load of its two bytes, and of `word_at` in a loop two.
+fn little_endian_at(bytes: &[u8], at: usize) -> u16
     requires { ⌜ at + 1 < length (now bytes) ⌝ }
     ensures { λ r. ⌜ (r ≡ getD (now (bytes .entry)) at 0 + getD (now (bytes .entry)) (at + 1) 0 * 256)
         × (r % 256 * 256 + r / 256 ≡ wordAt (now (bytes .entry)) at) ⌝ }
@@ -112,7 +112,7 @@ fn fill_words(bytes: &[u8], words: &mut [u16])
 {
     let mut i = 0;
     while i < words.len() {
-        words[i] = exchanged(low_first_at(bytes, i * 2));
+        words[i] = exchanged(little_endian_at(bytes, i * 2));
         i += 1;
     }
 }
@@ -126,8 +126,8 @@ pub fn read_words(bytes: &[u8], words: &mut [u16], at: usize)
     fill_words(bytes, &mut words[start..end]);
 }
 
-// The whole numbers of the bytes added up, modulo 65,536. The low byte of each and the high byte behind it count for as much in a number
-// whose low byte comes first, so that no bytes are exchanged; the first byte and the last stand alone.
+// The whole numbers of the bytes added up, modulo 65,536. Each low byte with the high byte behind it is a little-endian number, and is
+// added as it is loaded, with no bytes exchanged; the first byte and the last stand alone.
 pub fn sum_words(bytes: &[u8]) -> u16
     ensures { λ r. ⌜ r ≡ total (allWords (now (bytes .entry))) % 65536 ⌝ }
 {
@@ -138,7 +138,7 @@ pub fn sum_words(bytes: &[u8]) -> u16
     let mut sum = wide(bytes[0]) * 256;
     let mut i = 1;
     while i < count {
-        sum = word::wrapping_add(sum, low_first_at(bytes, i * 2 - 1));
+        sum = word::wrapping_add(sum, little_endian_at(bytes, i * 2 - 1));
         i += 1;
     }
     word::wrapping_add(sum, wide(bytes[count * 2 - 1]))

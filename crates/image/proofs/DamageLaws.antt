@@ -15,7 +15,7 @@ use Rattle.refusal.proofs.ReportLaws.{no-answer}
 use Rattle.memory.specs.Memory.{tooLong}
 use Rattle.word.proofs.Choice.{cond-true, cond-false}
 use Rattle.bigendian.specs.Numbers.{wordAt, wordsOf, total}
-use Rattle.bigendian.proofs.NumberLaws.{words-length}
+use Rattle.bigendian.proofs.NumberLaws.{word-kept, words-length}
 use Rattle.records.specs.Records.{Record}
 use Rattle.records.specs.Loading.{refuseLoad, acceptLoad}
 use Rattle.image.specs.Format.{recordLimit, addressAt, countAt, recordHeadBytes, recordBytes}
@@ -24,7 +24,6 @@ use Rattle.image.specs.Read.{Opening, headOf, placeOf, recordOf, tailOf,
 use Rattle.image.specs.Read.{follow, bodyOf}
 use Rattle.image.specs.Load.{isFor, sumAgrees, sumTested, boardTested, loadWith}
 use Rattle.image.specs.Laws.{GoodFile, InWords, ByteChanged, OwnByteChanged}
-use Rattle.image.proofs.ByteLaws.{word-kept}
 use Rattle.image.proofs.ReadLaws.{part-sound, body-law, Front, front, front-count}
 use Rattle.image.proofs.LoadLaws.{load-head}
 use Rattle.image.proofs.HeadLaws.{own-head}

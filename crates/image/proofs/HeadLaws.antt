@@ -6,10 +6,10 @@ use native.Mathlib.Omega.{arith}
 use lib.ListN.{length, set, length-set}
 use borrow.Author.Tests.{le-ltb}
 use Rattle.bigendian.specs.Numbers.{wordAt, bytesOf}
+use Rattle.bigendian.proofs.NumberLaws.{word-kept}
 use Rattle.image.specs.Format.{boardAt, headBytes, idHead, headWords, headLength}
 use Rattle.image.specs.Read.{headOf}
 use Rattle.image.specs.Laws.{ReadsBack, ReadsHeadAlone, OwnHead}
-use Rattle.image.proofs.ByteLaws.{word-kept}
 use Rattle.image.proofs.ReadLaws.{head-shown}
 
 head-size : (board : ℕ) → headLength (idHead board) ≡ headBytes

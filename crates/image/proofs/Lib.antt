@@ -1,5 +1,4 @@
--- Laws of bytes and sums, of reading, and of the loops.
-pub mod ByteLaws
+-- Laws of reading and of the loops, of written and damaged files, and of two cuts and two limits.
 pub mod ReadLaws
 pub mod PassLaws
 pub mod LoadLaws

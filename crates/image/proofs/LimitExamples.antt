@@ -1,20 +1,21 @@
 -- Files that tell the two limits apart, and one that does not: by the laws where they say it, and else by computing.
 use Prim.Native.Nat.{ℕ, _<_, _≤_}
 use mathlib.Core.Path.{_≡_, refl, _∙_}
+use mathlib.Core.Bool.{true}
 use mathlib.Core.List.{List}
 use native.Mathlib.Omega.{arith}
 use lib.Dec.{lit<, lit≤}
-use lib.ListN.{length, drop}
+use lib.ListN.{length, replicate, length-replicate}
 use borrow.Author.Tests.{le-ltb}
 use Rattle.word.proofs.Choice.{cond-true, cond-false}
 use Rattle.refusal.specs.Report.{refused, answered}
 use Rattle.memory.specs.declared.Admission.the-variants.{Admitted}
 use Rattle.bigendian.specs.Numbers.{wordAt}
-use Rattle.records.specs.Records.{overwrite}
+use Rattle.records.specs.Records.{isWithin, overwrite}
 use Rattle.records.specs.Loading.{laying}
 use Rattle.records.specs.Region.{spanOf, wordsBetween, regionAdmission}
 use Rattle.records.specs.Cut.{cutOf, recordCount}
-use Rattle.image.specs.Format.{recordLimit, recordBytes, idHead, imageOf}
+use Rattle.image.specs.Format.{recordLimit, recordBytes, bodyBytes, idHead, imageOf}
 use Rattle.image.specs.Read.{opened, headOf, recordPart, placeOf, recordOf, partOf, bodyOf}
 use Rattle.image.specs.Load.{loadWith}
 use Rattle.image.specs.Write.{regionImage}
@@ -24,12 +25,18 @@ use Rattle.image.proofs.HeadLaws.{own-head}
 use Rattle.image.proofs.TripLaws.{written-lays}
 use Rattle.image.proofs.LimitLaws.{every-region-is-written}
 
+limit-taken : (len : ℕ) (bytes : List ℕ) (address : ℕ) → recordBytes 4096 ≤ length bytes → isWithin len address 4096 ≡ true
+    → placeOf recordLimit len bytes address 4096 ≡ recordPart address 4096
+unfolding placeOf
+limit-taken len bytes address h w = cond-false _ _ (le-ltb (length bytes) (recordBytes 4096) h) ∙ cond-true _ _ w
+
 pub worked-counts : WorkedCounts
 unfolding placeOf
 worked-counts =
     record {
-      taken = λ len bytes address h w. cond-false _ _ (le-ltb (length bytes) (recordBytes 4096) h) ∙ cond-true _ _ w;
-      refused = λ len bytes address. refl;
+      limit-taken = limit-taken;
+      limit-met = limit-taken 4096 (replicate (recordBytes 4096) 0) 0 (omega (arith, length-replicate {A = ℕ} (recordBytes 4096) 0)) refl;
+      above-refused = λ len bytes address. refl;
       one-record = refl;
       two-records = refl;
     }
@@ -59,7 +66,7 @@ unfolding loadWith headOf imageOf cutOf wordAt placeOf recordOf partOf bodyOf
 refused-new = refl
 
 -- a record's head behind the file's is met
-met-by : (file : List ℕ) (count : ℕ) → headOf file ≡ opened (idHead 2) → Counted (drop 4 file) count → FileMeets headOf recordLimit 2 clearedMemory file count
+met-by : (file : List ℕ) (count : ℕ) → headOf file ≡ opened (idHead 2) → Counted (bodyBytes file) count → FileMeets headOf recordLimit 2 clearedMemory file count
 met-by file count o c = record { fits = refl; head = idHead 2; opens = o; here = refl; meets = at-front c }
 
 first-old : FileMeets headOf recordLimit 2 clearedMemory (fileAt oldLimit) 1024
@@ -86,20 +93,20 @@ long-region =
     }
 
 -- The record of longerFile is an offence, so nothing behind it is met.
-bytes : List ℕ
-bytes = drop 4 longerFile
+body : List ℕ
+body = bodyBytes longerFile
 
-offends : {a c : ℕ} → partOf recordLimit 1025 bytes ≡ recordPart a c → ⊥
-unfolding bytes wordAt placeOf recordOf partOf
+offends : {a c : ℕ} → partOf recordLimit 1025 body ≡ recordPart a c → ⊥
+unfolding body wordAt placeOf recordOf partOf
 offends e = let z : _≡_ {A = ℕ} 0 1 = cc in omega arith
 
-only : (count : ℕ) → Meets recordLimit 1025 bytes count → 4097 ≡ count
-unfolding bytes wordAt
+only : (count : ℕ) → Meets recordLimit 1025 body count → 4097 ≡ count
+unfolding body wordAt
 only count (at-front t) = t .states
 only count (behind e m) = absurd (offends e)
 
 none-between : (count : ℕ) → FileMeets headOf recordLimit 2 clearedMemory longerFile count → oldLimit < count → count ≤ recordLimit → ⊥
-unfolding bytes headOf wordAt
+unfolding body headOf wordAt
 none-between count f p q =
     let o : opened (idHead 2) ≡ opened (f .head) = f .opens in
     let e : f .head ≡ idHead 2 = cc in
@@ -113,4 +120,5 @@ longer-record =
       met = met-by longerFile 4097 refl (record { size = lit≤ tt; mark = refl; states = refl });
       none-between = none-between;
       refused-now = refl;
+      refused-before = refl;
     }

@@ -9,13 +9,13 @@ use native.Mathlib.Decide.{decLe}
 use lib.Dec.{eqb, ltb, lit<, lit≤}
 use lib.ListN.{length, take, drop}
 use lib.Seq.{take-append-seam}
-use borrow.Author.Tests.{eq-eqb, eqb-true, le-ltb, lt-ltb, ltb-false}
+use borrow.Author.Tests.{eqb-true, le-ltb, lt-ltb, ltb-false}
 use Rattle.refusal.specs.declared.Refusal.the-variants.{MalformedImage, MemoryTooLong, WrongBoard, PastMemory}
-use Rattle.refusal.specs.Report.{refused, answered}
+use Rattle.refusal.specs.Report.{answered}
 use Rattle.memory.specs.declared.Admission.{Admission}
 use Rattle.memory.specs.Bus.{unlessBarred}
 use Rattle.memory.specs.Memory.{tooLong}
-use Rattle.word.proofs.Choice.{cond-false}
+use Rattle.word.proofs.Choice.{cond-true, cond-false}
 use Rattle.bigendian.specs.Numbers.{wordAt}
 use Rattle.records.specs.Records.{isWithin, overwrite}
 use Rattle.records.specs.Loading.{Loading, refuseLoad, LoadedAlike}
@@ -30,10 +30,10 @@ use Rattle.image.specs.Load.{isFor, sumTested, boardTested, loadWith}
 use Rattle.image.specs.Write.{Writing, refuseWrite, writing, regionImage, writeWith}
 use Rattle.image.specs.Laws.{ReadsBack, WrittenFile}
 use Rattle.image.specs.Limits.{oldLimit, EveryRegionIsWritten, WritingsAlike, OldAndNewAlike, HigherLimitAlike, Counted, Meets, at-front, behind}
-use Rattle.image.specs.Limits.{SameUnlessBetween, OldImages, RoundTripAtEveryCut}
-use Rattle.image.proofs.LoadLaws.{one-board}
+use Rattle.image.specs.Limits.{SameUnlessBetween, OldImages}
+use Rattle.image.proofs.LoadLaws.{load-head}
 use Rattle.image.proofs.HeadLaws.{own-head}
-use Rattle.image.proofs.TripLaws.{written-lays, written-elsewhere, round-trip}
+use Rattle.image.proofs.TripLaws.{written-lays, written-elsewhere}
 
 pub every-region-is-written : EveryRegionIsWritten
 unfolding writeWith writing overwrite
@@ -158,44 +158,48 @@ module _ (low high : ℕ) (h : low ≤ high) (len : ℕ) where
       follow-met (bodyFrom n low len) (bodyFrom n high len) bytes k (body-same n) (partOf high len bytes) refl
       ∙ ap (follow (bodyFrom n low len) bytes) (part-same bytes k)
 
-pub higher-limit-alike : HigherLimitAlike
-unfolding loadWith bodyOf
-higher-limit-alike opening low high h board m file = by-length (tooLong m) (opening file)
-  where
-    by-board : (head : ImageHead) (t : Bool) → let end : ℕ → Loading = λ limit.
-        cond t (sumTested m (headSum head) (bodyOf limit (length m) (drop (headLength head) file))) (refuseLoad m WrongBoard) in
-        (end low .answer ≡ refused 9 → ⊥) → end high ≡ end low
-    by-board head true k =
-        let bytes = drop (headLength head) file in
-        ⊎-elim (λ e. absurd (k (ap (λ (b : Body). sumTested m (headSum head) b .answer) e))) (λ e. ap (sumTested m (headSum head)) e)
-        (body-higher low high h (length m) (length bytes) bytes)
-    by-board head false k = refl
+-- Two loaders that say the same of the records behind every head that is read and names the board say the same of the file.
+module _ (opening : List ℕ → Opening) (low high board : ℕ) (m file : List ℕ) where
+  abbrev behind-head : ℕ → ImageHead → Loading
+  behind-head limit head = sumTested m (headSum head) (bodyOf limit (length m) (drop (headLength head) file))
 
-    by-length : (t : Bool) (o : Opening) → let end : ℕ → Loading = λ limit. cond t (refuseLoad m MemoryTooLong) (boardTested limit board m file o) in
-        (end low .answer ≡ refused 9 → ⊥) → end high ≡ end low
-    by-length true o k = refl
-    by-length false (unopened e) k = refl
-    by-length false (opened head) k = by-board head (isFor head board) k
+  by-board : (head : ImageHead) (t : Bool) → (t ≡ true → behind-head high head ≡ behind-head low head)
+      → cond t (behind-head high head) (refuseLoad m WrongBoard) ≡ cond t (behind-head low head) (refuseLoad m WrongBoard)
+  by-board head true k = k refl
+  by-board head false k = refl
+
+  by-head : (o : Opening) → ((head : ImageHead) → o ≡ opened head → isFor head board ≡ true → behind-head high head ≡ behind-head low head)
+      → boardTested high board m file o ≡ boardTested low board m file o
+  by-head (opened head) k = by-board head (isFor head board) (k head refl)
+  by-head (unopened e) k = refl
+
+  loads-alike : ((head : ImageHead) → tooLong m ≡ false → opening file ≡ opened head → isFor head board ≡ true → behind-head high head ≡ behind-head low head)
+      → loadWith opening high board m file ≡ loadWith opening low board m file
+  unfolding loadWith
+  loads-alike k = go (tooLong m) refl
+    where
+      go : (t : Bool) → tooLong m ≡ t
+          → cond t (refuseLoad m MemoryTooLong) (boardTested high board m file (opening file)) ≡ cond t (refuseLoad m MemoryTooLong) (boardTested low board m file (opening file))
+      go true e = refl
+      go false e = by-head (opening file) (λ head. k head e)
+
+pub higher-limit-alike : HigherLimitAlike
+unfolding bodyOf
+higher-limit-alike opening low high h board m file k =
+    loads-alike opening low high board m file (λ head fits opens here.
+    let bytes = drop (headLength head) file in
+    let l = load-head opening low board m file fits opens ∙ cond-true _ _ here in
+    ⊎-elim (λ e. absurd (k (ap (λ (x : Loading). x .answer) l ∙ ap (λ (b : Body). sumTested m (headSum head) b .answer) e)))
+    (λ e. ap (sumTested m (headSum head)) e)
+    (body-higher low high h (length m) (length bytes) bytes))
 
 pub same-unless-between : SameUnlessBetween
-unfolding loadWith bodyOf
-same-unless-between opening low high h board m file k = by-length (tooLong m) refl (opening file) refl
-  where
-    by-board : tooLong m ≡ false → (head : ImageHead) → opening file ≡ opened head → (t : Bool) → isFor head board ≡ t → let end : ℕ → Loading = λ limit.
-        cond t (sumTested m (headSum head) (bodyOf limit (length m) (drop (headLength head) file))) (refuseLoad m WrongBoard) in
-        end high ≡ end low
-    by-board f head o true e =
-        let bytes = drop (headLength head) file in
-        ap (sumTested m (headSum head)) (body-same low high h (length m) (length bytes) bytes (λ c t.
-        k c (record { fits = f; head = head; opens = o; here = e; meets = t })))
-    by-board f head o false e = refl
-
-    by-length : (t : Bool) → tooLong m ≡ t → (o : Opening) → opening file ≡ o
-        → let end : ℕ → Loading = λ limit. cond t (refuseLoad m MemoryTooLong) (boardTested limit board m file o) in
-        end high ≡ end low
-    by-length true f o e = refl
-    by-length false f (unopened r) e = refl
-    by-length false f (opened head) e = by-board f head e (isFor head board) refl
+unfolding bodyOf
+same-unless-between opening low high h board m file k =
+    loads-alike opening low high board m file (λ head fits opens here.
+    let bytes = drop (headLength head) file in
+    ap (sumTested m (headSum head)) (body-same low high h (length m) (length bytes) bytes (λ c t.
+    k c (record { fits = fits; head = head; opens = opens; here = here; meets = t }))))
 
 pub old-images : OldImages
 old-images =
@@ -203,7 +207,3 @@ old-images =
       not-nine = higher-limit-alike headOf oldLimit recordLimit (lit≤ tt);
       none-between = same-unless-between headOf oldLimit recordLimit (lit≤ tt);
     }
-
-pub round-trip-at-every-cut : RoundTripAtEveryCut
-round-trip-at-every-cut board cut p q =
-    round-trip headOf (idHead board) (own-head .back board) board (sym (one-board board board) ∙ eq-eqb board board refl) cut recordLimit p q

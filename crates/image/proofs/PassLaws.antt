@@ -96,9 +96,9 @@ module _ {limit len : ℕ} {body : List ℕ} {at : ℕ} {p : Part} (k : Reading 
       let w = k .within in
       record { within = omega (arith, s .complete, length-drop at body) }
 
-  -- the record's bytes have the place of its address
-  pub reading-marked : {a c : ℕ} → p ≡ recordPart a c → addressAt ≤ length (take (at + recordBytes c - at) (drop at body))
-  reading-marked {a} {c} f =
+  -- the bytes of a record that is read go past its mark
+  pub reading-past-mark : {a c : ℕ} → p ≡ recordPart a c → addressAt ≤ length (take (at + recordBytes c - at) (drop at body))
+  reading-past-mark {a} {c} f =
       let w = reading-on f .within in
       omega (arith, length-take (at + recordBytes c - at) (drop at body), length-drop at body)
 

@@ -32,6 +32,7 @@ use Rattle.image.specs.Read.{follow, bodyOf}
 use Rattle.image.specs.Load.{isFor, sumAgrees, sumTested, boardTested, loadWith}
 use Rattle.image.specs.Write.{Writing, refuseWrite, writing, regionImage, writeWith}
 use Rattle.image.specs.Laws.{ReadsBack, WrittenFile, WrittenLays, OwnLays, RoundTrip, OwnRoundTrip, isRight, OtherBoard, OwnOtherBoard}
+use Rattle.image.specs.Limits.{RoundTripAtEveryCut}
 use Rattle.image.proofs.ReadLaws.{body-law}
 use Rattle.image.proofs.LoadLaws.{one-board}
 use Rattle.image.proofs.HeadLaws.{own-head}
@@ -233,15 +234,17 @@ other-board opening head back other away cut limit p q m first last file k n h =
     )
 
 -- .. of document 01's own writer and loader
+own-board : (board : ℕ) → isFor (idHead board) board ≡ true
+own-board board = sym (one-board board board) ∙ eq-eqb board board refl
+
+pub round-trip-at-every-cut : RoundTripAtEveryCut
+round-trip-at-every-cut board cut = round-trip headOf (idHead board) (own-head .back board) board (own-board board) cut recordLimit
+
 pub own-round-trip : OwnRoundTrip
-own-round-trip board =
-    let here = sym (one-board board board) ∙ eq-eqb board board refl in
-    round-trip headOf (idHead board) (own-head .back board) board here recordLimit recordLimit (lit< tt) (lit≤ tt)
+own-round-trip board = round-trip-at-every-cut board recordLimit (lit< tt) (lit≤ tt)
 
 pub own-lays : OwnLays
-own-lays board =
-    let here = sym (one-board board board) ∙ eq-eqb board board refl in
-    written-lays headOf (idHead board) (own-head .back board) board here recordLimit recordLimit (lit< tt) (lit≤ tt)
+own-lays board = written-lays headOf (idHead board) (own-head .back board) board (own-board board) recordLimit recordLimit (lit< tt) (lit≤ tt)
 
 pub own-other-board : OwnOtherBoard
 own-other-board board other d =

@@ -1,5 +1,5 @@
--- What the loader and the writer promise. Read Format first, the form of a file; then Read, Load and Write. Laws says what they come to, and Limits what a
--- higher limit of a record's words changes.
+-- What the loader and the writer promise. Read Format first, the form of a file; then Read, Load and Write. Laws says what they come to,
+-- and Limits what a higher limit of a record's words changes.
 pub mod Format
 pub mod Read
 pub mod Answer

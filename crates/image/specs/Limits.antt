@@ -25,15 +25,16 @@ use Rattle.image.specs.Laws.{ReadsBack, WrittenFile, RoundTripAt}
 abbrev pub oldLimit : ℕ
 oldLimit = 1024
 
--- "The worked counts in 01 move to 4,096 and 4,097": the first is taken, where the words are there and lie within, the second is refused
--- whatever they are; and so many words are written as one record and as two
+-- "The worked counts in 01 move to 4,096 and 4,097": the first is read, where its words are there and lie within the memory; the second is an
+-- offence whatever follows it; and the writer makes one record of 4,096 words and two of 4,097
 pub record WorkedCounts : Type 0 where
-  pub taken :
+  pub limit-taken :
       (len : ℕ) (bytes : List ℕ) (address : ℕ) →
       recordBytes 4096 ≤ length bytes →
       isWithin len address 4096 ≡ true →
       placeOf recordLimit len bytes address 4096 ≡ recordPart address 4096
-  pub refused : (len : ℕ) (bytes : List ℕ) (address : ℕ) → placeOf recordLimit len bytes address 4097 ≡ offencePart MalformedImage
+  pub limit-met : placeOf recordLimit 4096 (replicate (recordBytes 4096) 0) 0 4096 ≡ recordPart 0 4096
+  pub above-refused : (len : ℕ) (bytes : List ℕ) (address : ℕ) → placeOf recordLimit len bytes address 4097 ≡ offencePart MalformedImage
   pub one-record : recordCount recordLimit 4096 ≡ 1
   pub two-records : recordCount recordLimit 4097 ≡ 2
 
@@ -41,16 +42,16 @@ pub record WorkedCounts : Type 0 where
 abbrev pub oldLoadOf : ℕ → List ℕ → List ℕ → Loading
 oldLoadOf board m file = loadWith headOf oldLimit board m file
 
--- every region that the writer lets in has a writing at every cut
+-- every region that the writer lets in has a writing at every cut (at 0 in empty records, which no loader takes)
 abbrev pub EveryRegionIsWritten : Type 0
 EveryRegionIsWritten =
     (head : ImageHead) (cut : ℕ) (m : List ℕ) (first last : ℕ) →
     regionAdmission m first last ≡ Admitted →
     WrittenFile head cut m first last (regionImage head cut m first last)
 
--- Two writings of one region with one head, each cut as it may be, loaded alike: for any board, named or not, and into any memory, short or
--- too long. They leave equal memory, and both are answered or both get the same refusal; the numbers of records that are answered may
--- differ.
+-- Two writings of one region with one head, each at any cut from 1 to the loader's limit, loaded alike: for any board, named or not, and
+-- into any memory, short or too long. They leave equal memory, and both are answered or both get the same refusal; the numbers of records
+-- that are answered may differ.
 abbrev pub WritingsAlike : Type 0
 WritingsAlike =
     (opening : List ℕ → Opening) (head : ImageHead) →
@@ -107,7 +108,8 @@ pub record FileMeets (opening : List ℕ → Opening) (limit board : ℕ) (m fil
   pub here : isFor head board ≡ true
   pub meets : Meets limit (length m) (drop (headLength head) file) count
 
--- where no record that is met has a count above the lower limit and not above the higher, the two answer alike, 9 included
+-- where no record that is met has a count above the lower limit and not above the higher, the two answer alike and leave the same memory,
+-- 9 included
 abbrev pub SameUnlessBetween : Type 0
 SameUnlessBetween =
     (opening : List ℕ → Opening) (low high : ℕ) →
@@ -124,7 +126,7 @@ pub record OldImages : Type 0 where
       ((count : ℕ) → FileMeets headOf recordLimit board m file count → oldLimit < count → count ≤ recordLimit → ⊥) →
       loadOf board m file ≡ oldLoadOf board m file
 
--- "loading its file puts exactly that region back", however it was cut
+-- "loading its file puts exactly that region back", at every cut from 1 to 4,096
 abbrev pub RoundTripAtEveryCut : Type 0
 RoundTripAtEveryCut = (board cut : ℕ) → 0 < cut → cut ≤ recordLimit → RoundTripAt headOf (idHead board) board cut recordLimit
 
@@ -159,3 +161,4 @@ pub record LongerRecord : Type 0 where
   pub met : FileMeets headOf recordLimit 2 clearedMemory longerFile 4097
   pub none-between : (count : ℕ) → FileMeets headOf recordLimit 2 clearedMemory longerFile count → oldLimit < count → count ≤ recordLimit → ⊥
   pub refused-now : loadOf 2 clearedMemory longerFile ≡ record { answer = refused 9; memory = clearedMemory }
+  pub refused-before : oldLoadOf 2 clearedMemory longerFile ≡ record { answer = refused 9; memory = clearedMemory }

@@ -42,6 +42,6 @@ unfoldable pub loadWith : (List ℕ → Opening) → ℕ → ℕ → List ℕ �
 loadWith opening limit board m file =
     cond (tooLong m) (refuseLoad m MemoryTooLong) (boardTested limit board m file (opening file))
 
--- document 01's own: "`ID` board", "count 1 to 4,096"
+-- document 01's own: "`ID` board", "count 1 to 4,096", as amended
 abbrev pub loadOf : ℕ → List ℕ → List ℕ → Loading
 loadOf board m file = loadWith headOf recordLimit board m file

@@ -1,5 +1,5 @@
 -- A file read in its own order: the head, then records up to the tail, or the first offence.
--- "9: missing or wrong mark, cut file, count 0 or above 4,096, bytes after OK"; "11: record .. past the lent memory".
+-- "9: missing or wrong mark, cut file, count 0 or above 4,096, bytes after OK", as amended; "11: record .. past the lent memory".
 use Prim.Native.Nat.{ℕ, zero, suc, _≤_}
 use mathlib.Core.Path.{_≡_}
 use mathlib.Core.Bool.{cond}

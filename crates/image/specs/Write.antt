@@ -1,4 +1,5 @@
--- The writer: "The writer covers a region with full records of 4,096, the last perhaps shorter", refused by 1, 7, 11 and 13 in this order.
+-- The writer: "The writer covers a region with full records of 4,096, the last perhaps shorter", as document 02 amends it,
+-- refused by 1, 7, 11 and 13 in this order.
 use Prim.Native.Nat.{ℕ, _+_, _*_}
 use mathlib.Core.Bool.{cond}
 use mathlib.Core.List.{List}

@@ -1,4 +1,4 @@
--- The records that words are cut into: "full records of 4,096, the last perhaps shorter", with the limit a parameter.
+-- The records that words are cut into: "full records of 4,096, the last perhaps shorter", as document 02 amends it; the limit is a parameter.
 use Prim.Native.Nat.{ℕ, zero, suc, _+_, _-_, _/_}
 use mathlib.Core.Bool.{cond}
 use mathlib.Core.List.{List, [], _∷_}

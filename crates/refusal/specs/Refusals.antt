@@ -40,7 +40,7 @@ refusalNumber NotAListingLine = 6
 refusalNumber FirstAboveLast = 7
 -- limit above 4,096
 refusalNumber LimitTooHigh = 8
--- missing or wrong mark, cut file, bad count, bytes after OK; over-long program input
+-- missing or wrong mark, cut file, count 0 or above 4,096 (document 02, [7]), bytes after OK; before all, over-long program input
 refusalNumber MalformedImage = 9
 -- ID board not the board given
 refusalNumber WrongBoard = 10

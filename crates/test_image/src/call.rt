@@ -110,8 +110,8 @@ pub(crate) fn write_is_well(
     row::is_write(before, after) & written & text::same(room, mirror)
 }
 
-// The pattern's region is written into a room of just so many bytes, and loaded for the same board into other memory. What is to come
-// back then stands where the pattern was.
+// The pattern's region is written into a room of just so many bytes, and loaded for the same board into other memory. The memory that it
+// was written from then gets what is expected: the fill, and the pattern in the region.
 pub(crate) fn trip_is_well(
     before: &[u8],
     after: &[u8],

@@ -27,7 +27,8 @@ pub(crate) fn are_pieces(value: &[u8]) -> bool {
     text::all_stand_in(value, b"0123456789ABCDEF-,")
 }
 
-// A word behind the first `size` bytes of a room, if there is room for it. Answers how many bytes there are then, as all that follow do.
+// A word behind the first `size` bytes of a room, if there is room for it. Answers how many bytes there are then; so do the
+// functions below.
 fn put_word(room: &mut [u8], size: usize, word: u16) -> usize
     requires { ⌜ size ≤ length (now room) ⌝ }
     ensures { λ r. ⌜ r ≤ length (now (room .entry)) ⌝ }

@@ -82,7 +82,7 @@ pub const LINE_WORDS: usize = 3;
 /// The most words of a record in an image file. The writer makes records of so many, the last perhaps shorter.
 pub const RECORD_WORDS: usize = 4_096;
 
-/// The room that the longest image file needs, that of 65,536 words.
+/// The room that takes every image file that is written, up to that of 65,536 words. A file that is loaded may be longer.
 pub const IMAGE_ROOM: usize = 131_176;
 
 /// The room that the text of a written pair needs, and its length, whatever the region.

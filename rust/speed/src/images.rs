@@ -39,7 +39,7 @@ pub fn load<K: Kit, const WORDS: usize>() -> Measured {
     Measured { units: LONGEST_MEMORY as u64, time, digest: digest((records, memory)) }
 }
 
-/// Files of 16 words each, written and loaded: what a call costs beside its words.
+/// Files of 16 words each, written and loaded in turn: what a program that packs small files pays, and a row that older figures have.
 pub fn write_and_load<K: Kit>() -> Measured {
     const WORDS: u16 = 16;
     const FILES: u16 = 1_024;

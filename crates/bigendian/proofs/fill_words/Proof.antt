@@ -18,7 +18,7 @@ loop-holds : tie.Need-loop-holds Inv-loop μ-loop
 loop-holds c = record { size = refl; within = omega arith; filled = refl }
 
 loop-again : tie.Need-loop-again Inv-loop μ-loop
-loop-again c = filling-on (c .before .before .before .loop .inv) (c .before .before .loop-test .taken) (c .exchanged .ensures ∙ c .before .low-first-at .ensures .1)
+loop-again c = filling-on (c .before .before .before .loop .inv) (c .before .before .loop-test .taken) (c .exchanged .ensures ∙ c .before .little-endian-at .ensures .1)
 
 same-length : tie.Need-same-length Inv-loop μ-loop
 same-length c = c .before .loop .inv .size

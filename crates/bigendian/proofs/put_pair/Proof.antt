@@ -10,7 +10,7 @@ use Rattle.bigendian.proofs.put_pair.Tie as tie
 returns : tie.Need-returns
 returns c =
     let a = c .before .before .before .before .before .before .args in
-    c .before .before .put-low-first .ensures ∙ ap (sets (a .room .now) (a .at)) (exchanged-bytes (a .word) _ (omega arith) (c .before .before .before .exchanged .ensures))
+    c .before .before .put-little-endian .ensures ∙ ap (sets (a .room .now) (a .at)) (exchanged-bytes (a .word) _ (omega arith) (c .before .before .before .exchanged .ensures))
 
 pub put-pair-spec : {M : Type 1} → statement M
 put-pair-spec = tie.close (tie.spec (λ c κs. search needs) (λ c κs. search needs) (λ c. search needs) returns)

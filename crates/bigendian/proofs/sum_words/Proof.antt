@@ -19,14 +19,14 @@ returns c = rw (c .if1 .taken)
 loop-holds : tie.Need-loop-holds Inv-loop μ-loop
 loop-holds c = adding _ _ _ (omega arith) (rw (c .wide .ensures .0))
 
-sub-low-first-at : tie.Need-sub-low-first-at Inv-loop μ-loop
-sub-low-first-at c = omega (arith, c .before .loop .inv .some)
+sub-little-endian-at : tie.Need-sub-little-endian-at Inv-loop μ-loop
+sub-little-endian-at c = omega (arith, c .before .loop .inv .some)
 
-low-first-at-requires : tie.Need-low-first-at-requires Inv-loop μ-loop
-low-first-at-requires c κs = omega (arith, c .before .loop .inv .some)
+little-endian-at-requires : tie.Need-little-endian-at-requires Inv-loop μ-loop
+little-endian-at-requires c κs = omega (arith, c .before .loop .inv .some)
 
 loop-again : tie.Need-loop-again Inv-loop μ-loop
-loop-again c = adding-on (c .before .before .before .loop .inv) (c .before .before .loop-test .taken) (c .before .low-first-at .ensures .0) (c .wrapping-add .ensures)
+loop-again c = adding-on (c .before .before .before .loop .inv) (c .before .before .loop-test .taken) (c .before .little-endian-at .ensures .0) (c .wrapping-add .ensures)
 
 returns-2 : tie.Need-returns-2 Inv-loop μ-loop
 returns-2 c = adding-end (c .before .before .before .before .loop .inv) (c .before .before .before .loop-test .left) refl (c .before .wide2 .ensures .0) (c .wrapping-add2 .ensures)
@@ -43,8 +43,8 @@ sum-words-spec =
     (λ c. search needs)
     loop-holds
     (λ c. search needs)
-    sub-low-first-at
-    low-first-at-requires
+    sub-little-endian-at
+    little-endian-at-requires
     (λ c κs. search needs)
     (λ c. search needs)
     (λ c. search needs)

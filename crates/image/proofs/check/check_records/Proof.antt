@@ -6,7 +6,7 @@ use Rattle.image.specs.Format.{recordLimit}
 use Rattle.image.specs.inner.Pass.{partRead}
 use borrow.Author.Needs.{needs}
 use lib.ListN.{length}
-use Rattle.image.proofs.PassLaws.{Checking, checking, reading-on, reading-marked, reading-less, checking-on, checking-tail}
+use Rattle.image.proofs.PassLaws.{Checking, checking, reading-on, reading-past-mark, reading-less, checking-on, checking-tail}
 use Rattle.image.proofs.PassLaws.{checking-broken}
 use Rattle.image.proofs.check.check_records.Statement.{statement}
 use Rattle.image.proofs.check.check_records.Tie as tie
@@ -27,7 +27,7 @@ part-sum-record-end : tie.Need-part-sum-record-end Inv-loop μ-loop
 part-sum-record-end c = reading-on (c .before .before .before .before .before .loop .inv .here) (c .before .before .before .read-part .ensures) (ap partRead (c .before .part .given .1)) .within
 
 sum-record-requires : tie.Need-sum-record-requires Inv-loop μ-loop
-sum-record-requires c κs = reading-marked (c .before .before .before .before .before .before .loop .inv .here) (c .before .before .before .before .read-part .ensures) (ap partRead (c .before .before .part .given .1))
+sum-record-requires c κs = reading-past-mark (c .before .before .before .before .before .before .loop .inv .here) (c .before .before .before .before .read-part .ensures) (ap partRead (c .before .before .part .given .1))
 
 loop-less : tie.Need-loop-less Inv-loop μ-loop
 loop-less c = reading-less (c .before .before .before .before .before .before .before .before .loop .inv .here) (c .before .before .before .before .before .before .read-part .ensures) (ap partRead (c .before .before .before .before .part .given .1))

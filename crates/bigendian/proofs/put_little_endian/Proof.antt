@@ -4,8 +4,8 @@ use Prim.Native.Nat.{_%_}
 use native.Mathlib.Omega.{arith}
 use lib.ListN.{length-set}
 use borrow.Author.Needs.{needs}
-use Rattle.bigendian.proofs.put_low_first.Statement.{statement}
-use Rattle.bigendian.proofs.put_low_first.Tie as tie
+use Rattle.bigendian.proofs.put_little_endian.Statement.{statement}
+use Rattle.bigendian.proofs.put_little_endian.Tie as tie
 
 slice-write-room-2 : tie.Need-slice-write-room-2
 slice-write-room-2 c = omega (arith, length-set (c .args .room .now) (c .args .at) (c .args .word % 256))
@@ -13,8 +13,8 @@ slice-write-room-2 c = omega (arith, length-set (c .args .room .now) (c .args .a
 returns : tie.Need-returns
 returns c = rw add-one
 
-pub put-low-first-spec : {M : Type 1} → statement M
-put-low-first-spec =
+pub put-little-endian-spec : {M : Type 1} → statement M
+put-little-endian-spec =
     tie.close
     (tie.spec
     (λ c. search needs)
