@@ -126,8 +126,8 @@ pub fn read_words(bytes: &[u8], words: &mut [u16], at: usize)
     fill_words(bytes, &mut words[start..end]);
 }
 
-// The whole numbers of the bytes added up, modulo 65,536. Each low byte with the high byte behind it is a little-endian number, and is
-// added as it is loaded, with no bytes exchanged; the first byte and the last stand alone.
+// The whole numbers of the bytes added up, modulo 65,536. Each low byte, with the high byte of the number behind it, is a little-endian
+// number, and is added as it is loaded, with no bytes exchanged; the first high byte and the last low byte stand alone.
 pub fn sum_words(bytes: &[u8]) -> u16
     ensures { λ r. ⌜ r ≡ total (allWords (now (bytes .entry))) % 65536 ⌝ }
 {

@@ -1,6 +1,5 @@
--- Document 02, [7]: "raise the count limit from 1,024 to 4,096 words". What was written and loaded before, beside what is now. The old
--- writer and the old loader are the same definitions at 1,024, so the laws speak of two cuts, or of two limits. Statements; the proofs
--- are in proofs/.
+-- Document 02, [7]: "raise the count limit from 1,024 to 4,096 words". What the old writer and loader did, beside what the new ones do. They
+-- are the same definitions at 1,024, so the laws speak of two cuts, or of two limits. Statements; the proofs are in proofs/.
 use Prim.Native.Nat.{ℕ, _<_, _≤_}
 use mathlib.Core.Path.{_≡_}
 use mathlib.Core.Bool.{true, false}
@@ -25,14 +24,16 @@ use Rattle.image.specs.Laws.{ReadsBack, WrittenFile, RoundTripAt}
 abbrev pub oldLimit : ℕ
 oldLimit = 1024
 
--- "The worked counts in 01 move to 4,096 and 4,097": the first is read, where its words are there and lie within the memory; the second is an
--- offence whatever follows it; and the writer makes one record of 4,096 words and two of 4,097
+-- "The worked counts in 01 move to 4,096 and 4,097", "9 now begins at 4,097": the first is read, where its words are there and lie within the
+-- memory; the second is an offence whatever follows it; and 4,096 words are cut into one record, 4,097 into two (by `CutLaws.count` a cut
+-- has `recordCount` records)
 pub record WorkedCounts : Type 0 where
   pub limit-taken :
       (len : ℕ) (bytes : List ℕ) (address : ℕ) →
       recordBytes 4096 ≤ length bytes →
       isWithin len address 4096 ≡ true →
       placeOf recordLimit len bytes address 4096 ≡ recordPart address 4096
+  -- its premises can be met
   pub limit-met : placeOf recordLimit 4096 (replicate (recordBytes 4096) 0) 0 4096 ≡ recordPart 0 4096
   pub above-refused : (len : ℕ) (bytes : List ℕ) (address : ℕ) → placeOf recordLimit len bytes address 4097 ≡ offencePart MalformedImage
   pub one-record : recordCount recordLimit 4096 ≡ 1
@@ -42,7 +43,7 @@ pub record WorkedCounts : Type 0 where
 abbrev pub oldLoadOf : ℕ → List ℕ → List ℕ → Loading
 oldLoadOf board m file = loadWith headOf oldLimit board m file
 
--- every region that the writer lets in has a writing at every cut (at 0 in empty records, which no loader takes)
+-- every region that the writer lets in has a writing at every cut (at a cut of 0 its records are empty, and no loader takes those)
 abbrev pub EveryRegionIsWritten : Type 0
 EveryRegionIsWritten =
     (head : ImageHead) (cut : ℕ) (m : List ℕ) (first last : ℕ) →
@@ -100,7 +101,8 @@ pub data Meets (limit len : ℕ) : List ℕ → ℕ → Type 0 where
       Meets limit len (drop (recordBytes size) bytes) count →
       Meets limit len bytes count
 
--- .. in a file that is loaded for a board: nothing is met behind an offence, and 1, the head and the board come before all records
+-- .. in a file that is loaded for a board. Nothing is met behind an offence, and nothing at all in a file that is refused by 1, for its head
+-- or for its board.
 pub record FileMeets (opening : List ℕ → Opening) (limit board : ℕ) (m file : List ℕ) (count : ℕ) : Type 0 where
   pub fits : tooLong m ≡ false
   pub head : ImageHead
@@ -130,7 +132,7 @@ pub record OldImages : Type 0 where
 abbrev pub RoundTripAtEveryCut : Type 0
 RoundTripAtEveryCut = (board cut : ℕ) → 0 < cut → cut ≤ recordLimit → RoundTripAt headOf (idHead board) board cut recordLimit
 
--- The fewest words that the two writers cut differently: NOPs, and the memory that they just fill.
+-- 1,025 NOPs, the fewest words that the two writers cut differently; and a cleared memory of just so many words
 abbrev pub longRegion : List ℕ
 longRegion = replicate 1025 0x0034
 
@@ -156,7 +158,8 @@ pub record LongRegion : Type 0 where
 abbrev pub longerFile : List ℕ
 longerFile = 0x49 ∷ 0x44 ∷ 0x00 ∷ 0x02 ∷ 0x41 ∷ 0x54 ∷ 0x00 ∷ 0x10 ∷ 0x10 ∷ 0x01 ∷ []
 
--- "9 now begins at 4,097": reading meets that count and none between, and both loaders refuse the file by 9
+-- `none-between` covers files that are refused by 9, too: this one states a count above both limits and none between, and both loaders
+-- refuse it
 pub record LongerRecord : Type 0 where
   pub met : FileMeets headOf recordLimit 2 clearedMemory longerFile 4097
   pub none-between : (count : ℕ) → FileMeets headOf recordLimit 2 clearedMemory longerFile count → oldLimit < count → count ≤ recordLimit → ⊥

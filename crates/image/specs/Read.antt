@@ -31,7 +31,8 @@ pub data Part : Type 0 where
   tailPart : ℕ → Part
   offencePart : Refusal → Part
 
--- "`AT` address, count 1 to 4,096, words": "count before cut words before 11". The largest count and the memory's length are arguments.
+-- "`AT` address, count 1 to 4,096, words", as amended: "count before cut words before 11". The largest count and the memory's length are
+-- arguments.
 unfoldable pub placeOf : ℕ → ℕ → List ℕ → ℕ → ℕ → Part
 placeOf limit len bytes address count =
     cond (eqb count 0) (offencePart MalformedImage)

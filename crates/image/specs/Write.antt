@@ -45,7 +45,7 @@ unfoldable pub writeWith : ImageHead → ℕ → List ℕ → ℕ → ℕ → Li
 writeWith head limit m first last room =
     unlessBarred (regionAdmission m first last) (refuseWrite room) (writing room (regionImage head limit m first last))
 
--- document 01's own: "`ID` board", "full records of 4,096"
+-- document 01's own: "`ID` board", "full records of 4,096", as amended
 abbrev pub writeOf : ℕ → List ℕ → ℕ → ℕ → List ℕ → Writing
 writeOf board m first last room = writeWith (idHead board) recordLimit m first last room
 
