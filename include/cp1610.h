@@ -99,7 +99,7 @@ enum cp1610_region_report {
 enum cp1610_list_report { CP1610_TEXT_LENGTH = 0, CP1610_WORDS_USED = 1, CP1610_NEXT_D = 2, CP1610_LIST_WORDS = 3 };
 enum cp1610_line { CP1610_LINE_WORDS = 3, CP1610_TEXT_ROOM = 16 };
 
-/* The most words of a record in an image file: the writer makes full records, the last perhaps shorter. And the room that takes every file
+/* The most words of a record in an image file: the writer makes full records, the last perhaps shorter. CP1610_IMAGE_ROOM bytes take every file
  * that is written; a file that is loaded may be longer. */
 enum cp1610_image { CP1610_RECORD_WORDS = 4096, CP1610_IMAGE_ROOM = 131176 };
 
