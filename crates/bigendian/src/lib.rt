@@ -87,8 +87,9 @@ pub fn put_words(room: &mut [u8], at: usize, words: &[u16]) -> u16
     let mut sum: u16 = 0;
     let mut i = 0;
     while i < count {
-        put_pair(room, at + i * 2, words[i]);
-        sum = word::wrapping_add(sum, words[i]);
+        let number = words[i];
+        put_pair(room, at + i * 2, number);
+        sum = word::wrapping_add(sum, number);
         i += 1;
     }
     sum

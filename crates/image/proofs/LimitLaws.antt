@@ -76,29 +76,30 @@ same-ways : (b : Bool) {x y x′ y′ : Part} → (b ≡ true → x ≡ x′) �
 same-ways true f g = f refl
 same-ways false f g = g refl
 
+-- the first is the bad one, or the second is the same
+abbrev SameOr : {A : Type 0} → A → A → A → Type 0
+SameOr bad p q = (p ≡ bad) ⊎ (q ≡ p)
+
+on-both : {A : Type 0} {bad : A} (b : Bool) {x y x′ y′ : A} → SameOr bad x x′ → SameOr bad y y′ → SameOr bad (cond b x y) (cond b x′ y′)
+on-both true p q = p
+on-both false p q = q
+
 -- Two limits.
 module _ (low high : ℕ) (h : low ≤ high) (len : ℕ) where
-  -- the first is malformed, or the second is the same
-  abbrev OrMalformed : Part → Part → Type 0
-  OrMalformed p q = (p ≡ offencePart MalformedImage) ⊎ (q ≡ p)
-
-  on-both : (b : Bool) {x y x′ y′ : Part} → OrMalformed x x′ → OrMalformed y y′ → OrMalformed (cond b x y) (cond b x′ y′)
-  on-both true p q = p
-  on-both false p q = q
-
-  place-higher : (bytes : List ℕ) (a c : ℕ) → OrMalformed (placeOf low len bytes a c) (placeOf high len bytes a c)
+  -- a part that a limit does not call malformed is the same at a higher one
+  place-higher : (bytes : List ℕ) (a c : ℕ) → SameOr (offencePart MalformedImage) (placeOf low len bytes a c) (placeOf high len bytes a c)
   unfolding placeOf
   place-higher bytes a c = on-both (eqb c 0) (inl refl) (go (decLe c low))
     where
-      Rest : Part
-      Rest = cond (ltb (length bytes) (recordBytes c)) (offencePart MalformedImage) (cond (isWithin len a c) (recordPart a c) (offencePart PastMemory))
+      rest : Part
+      rest = cond (ltb (length bytes) (recordBytes c)) (offencePart MalformedImage) (cond (isWithin len a c) (recordPart a c) (offencePart PastMemory))
 
       go : Dec (c ≤ low)
-          → OrMalformed (cond (ltb low c) (offencePart MalformedImage) Rest) (cond (ltb high c) (offencePart MalformedImage) Rest)
+          → SameOr (offencePart MalformedImage) (cond (ltb low c) (offencePart MalformedImage) rest) (cond (ltb high c) (offencePart MalformedImage) rest)
       go (yes l) = rw (le-ltb low c l, le-ltb high c (omega arith)) (inr refl)
       go (no l) = rw (lt-ltb low c (omega arith)) (inl refl)
 
-  part-higher : (bytes : List ℕ) → OrMalformed (partOf low len bytes) (partOf high len bytes)
+  part-higher : (bytes : List ℕ) → SameOr (offencePart MalformedImage) (partOf low len bytes) (partOf high len bytes)
   unfolding partOf recordOf
   part-higher bytes =
       on-both (ltb (length bytes) 2) (inl refl)
@@ -107,18 +108,15 @@ module _ (low high : ℕ) (h : low ≤ high) (len : ℕ) where
       (inr refl))
 
   -- .. and so is a body
-  abbrev BodyOrMalformed : Body → Body → Type 0
-  BodyOrMalformed b d = (b ≡ broken MalformedImage) ⊎ (d ≡ b)
-
-  follow-higher : (on up : List ℕ → Body) → ((rest : List ℕ) → BodyOrMalformed (on rest) (up rest)) → (bytes : List ℕ) (p : Part)
-      → BodyOrMalformed (follow on bytes p) (follow up bytes p)
+  follow-higher : (on up : List ℕ → Body) → ((rest : List ℕ) → SameOr (broken MalformedImage) (on rest) (up rest)) → (bytes : List ℕ) (p : Part)
+      → SameOr (broken MalformedImage) (follow on bytes p) (follow up bytes p)
   follow-higher on up ih bytes (recordPart a c) =
       let r = recordAt a c bytes in
       ⊎-elim (λ e. inl (ap (withRecord r) e)) (λ e. inr (ap (withRecord r) e)) (ih (drop (recordBytes c) bytes))
   follow-higher on up ih bytes (tailPart s) = inr refl
   follow-higher on up ih bytes (offencePart e) = inr refl
 
-  body-higher : (n : ℕ) (bytes : List ℕ) → BodyOrMalformed (bodyFrom n low len bytes) (bodyFrom n high len bytes)
+  body-higher : (n : ℕ) (bytes : List ℕ) → SameOr (broken MalformedImage) (bodyFrom n low len bytes) (bodyFrom n high len bytes)
   body-higher zero bytes = inl refl
   body-higher (suc n) bytes =
       ⊎-elim (λ e. inl (ap (follow (bodyFrom n low len) bytes) e))

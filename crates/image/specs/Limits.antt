@@ -20,7 +20,7 @@ use Rattle.image.specs.Load.{isFor, loadWith, loadOf}
 use Rattle.image.specs.Write.{regionImage}
 use Rattle.image.specs.Laws.{ReadsBack, WrittenFile, RoundTripAt}
 
--- document 01's limit up to this request
+-- document 01's own limit, which the request raises
 abbrev pub oldLimit : ℕ
 oldLimit = 1024
 

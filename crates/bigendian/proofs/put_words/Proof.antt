@@ -20,7 +20,7 @@ put-pair-requires c κs = omega (arith, putting-length (c .before .before .befor
 
 loop-again : tie.Need-loop-again Inv-loop μ-loop
 loop-again c =
-    putting-on (c .before .before .before .before .before .before .before .before .loop .inv) (c .before .before .before .before .before .before .before .loop-test .taken) (omega arith) (c .before .before .before .before .put-pair .ensures) (c .wrapping-add .ensures)
+    putting-on (c .before .before .before .before .before .before .before .loop .inv) (c .before .before .before .before .before .before .loop-test .taken) (omega arith) (c .before .before .before .put-pair .ensures) (c .wrapping-add .ensures)
 
 same-length : tie.Need-same-length Inv-loop μ-loop
 same-length c = putting-length (c .before .loop .inv)
@@ -42,8 +42,6 @@ put-words-spec =
     (λ c. search needs)
     (λ c. search needs)
     put-pair-requires
-    (λ c. search needs)
-    (λ c. search needs)
     (λ c κs. search needs)
     (λ c. search needs)
     (λ c. search needs)
