@@ -1,4 +1,5 @@
 // A set of addresses in lent words: one bit an address, 64 to a word, lowest bit first. Words past the end have no members, and take none.
+#![tactic(auto)]
 ghost use Rattle.std.specs.Prelude.{◌≡◌, not, length, get_or, replicate};
 ghost use Rattle.bitset.specs.Bits.{contains, inserted, in_either, count_below, lowest_or_none, lowest_below};
 
@@ -6,7 +7,7 @@ ghost use Rattle.bitset.specs.Bits.{contains, inserted, in_either, count_below, 
 pub const WORDS: usize = 1024;
 
 // The lowest member, or that there is none.
-#[derive(Drop)]
+#[derive(Clone, Copy)]
 pub enum Lowest {
     Nothing,
     At(u16),

@@ -1,4 +1,5 @@
 // The processor: its state, and one step of it.
+#![tactic(auto)]
 ghost use Rattle.std.specs.Prelude.{◌≡◌, false, get_or};
 ghost use Rattle.refusal.specs.Report.{is_refused};
 ghost use Rattle.memory.specs.Bus.{bus_on, read_of};
@@ -27,7 +28,7 @@ mod types;
 
 // The machine beside its registers: flags S Z O C I D, halted, ready, the previous INTRM level (true: high) and the pending
 // mark. `ready` says that a request is heard before the next instruction.
-#[derive(Drop)]
+#[derive(Clone, Copy)]
 pub struct Status {
     pub halted: bool,
     pub s: bool,
@@ -42,14 +43,14 @@ pub struct Status {
 }
 
 // R0 to R7 and the rest. It goes into a step by value and comes back by value.
-#[derive(Drop)]
+#[derive(Clone, Copy)]
 pub struct State {
     pub registers: [u16; 8],
     pub status: Status,
 }
 
 // The inputs of a step: the levels of INTRM and BUSRQ (true: high), and the external branch inputs, input n in bit n.
-#[derive(Drop)]
+#[derive(Clone, Copy)]
 pub struct Lines {
     pub intrm: bool,
     pub busrq: bool,
@@ -58,7 +59,7 @@ pub struct Lines {
 
 // Which item of document 01's order a step goes by: 1 refused as halted, 3 the bus granted, 4 an interrupt served, 5 one
 // instruction.
-#[derive(Drop)]
+#[derive(Clone, Copy)]
 pub enum Plan {
     Halting,
     Granting,
@@ -67,7 +68,7 @@ pub enum Plan {
 }
 
 // What a step did, with its cycles, or why it was refused. (Cycles of 64 bits make the answer too long to be packed into one number.)
-#[derive(Drop)]
+#[derive(Clone, Copy)]
 pub enum StepAnswer {
     Refused(Refusal),
     Granted { cycles: u64 },
@@ -75,14 +76,14 @@ pub enum StepAnswer {
     Executed { cycles: u64 },
 }
 
-#[derive(Drop)]
+#[derive(Clone, Copy)]
 pub struct Stepped {
     pub state: State,
     pub answer: StepAnswer,
 }
 
 // The same with the range at hand after it, in which the opcode stood: a run hands it to its next step.
-#[derive(Drop)]
+#[derive(Clone, Copy)]
 pub struct NearStep {
     pub state: State,
     pub answer: StepAnswer,

@@ -1,5 +1,6 @@
 // The decoder: from an address and the double-byte mark D to the instruction that stands there. Step, meter and disassembler
 // share it, and with it the one decision which forms are unspecified.
+#![tactic(auto)]
 ghost use Rattle.std.specs.Prelude.{◌≡◌};
 ghost use Rattle.memory.specs.Bus.{bus_on, read_of};
 ghost use Rattle.memory.specs.Near.{in_front};
@@ -13,7 +14,7 @@ pub mod rows;
 
 // An instruction: a kind for each line of document 01's table, with its fields. s is bits 5 to 3 of the opcode, d bits 2 to 0.
 // (Bits 9 to 6 as a byte make the whole six bytes long, which the compiler leaves in parts; eight it would pack into one number.)
-#[derive(Drop)]
+#[derive(Clone, Copy)]
 pub enum Instr {
     // 000
     Hlt,
@@ -41,7 +42,7 @@ pub enum Instr {
     Read(u8, u16, u16),
 }
 
-#[derive(Drop)]
+#[derive(Clone, Copy)]
 pub enum Decoded {
     Unspecified,
     Known(Instr),

@@ -1,4 +1,5 @@
 // Makes a few steps from reset and prints the registers after each: the shortest use of the processor.
+#![tactic(auto)]
 use cpu::{Lines, State, StepAnswer};
 use libc::STDOUT_FILENO;
 

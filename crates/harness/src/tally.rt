@@ -4,7 +4,7 @@ ghost use Rattle.harness.specs.Tally.{no_cases, counted_of, all_well};
 
 use libc::STDOUT_FILENO;
 
-#[derive(Drop)]
+#[derive(Clone, Copy)]
 pub struct Tally {
     pub cases: u64,
     pub failed: u64,

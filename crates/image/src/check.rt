@@ -10,7 +10,7 @@ use crate::{format, parse};
 use refusal::Refusal;
 
 // How many records there are, their sum, and the sum that the tail states; or the first offence.
-#[derive(Drop)]
+#[derive(Clone, Copy)]
 pub(crate) enum Checked {
     Whole {
         records: usize,

@@ -1,5 +1,6 @@
 // Image files: the loader and the writer. A file is a head that names its board, records of words with their addresses, and a tail with
 // the sum of all numbers before it.
+#![tactic(auto)]
 ghost use Rattle.std.specs.Prelude.{◌≡◌, eqb, length};
 ghost use Rattle.word.specs.Word.{wrap_add};
 ghost use Rattle.records.specs.Loading.{loaded};
@@ -23,14 +24,14 @@ use crate::check::Checked;
 use crate::parse::{Head, Part};
 
 // The length of the file, or why it was not written.
-#[derive(Drop)]
+#[derive(Clone, Copy)]
 pub enum WriteAnswer {
     Refused(Refusal),
     Written(usize),
 }
 
 // The record at the front of some bytes, if one stands there: where its words go, and how many they are.
-#[derive(Drop)]
+#[derive(Clone, Copy)]
 pub enum FirstRecord {
     Record { address: u16, count: u16 },
     NoRecord,

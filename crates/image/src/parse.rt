@@ -8,7 +8,7 @@ use crate::format;
 use refusal::Refusal;
 
 // The head names the board that the file is for.
-#[derive(Drop)]
+#[derive(Clone, Copy)]
 pub(crate) enum Head {
     Board(u16),
     Malformed,
@@ -16,7 +16,7 @@ pub(crate) enum Head {
 
 // What stands at the front of the bytes after the head: a record, whose words follow its count; the tail, with the sum that it states; or
 // an offence.
-#[derive(Drop)]
+#[derive(Clone, Copy)]
 pub(crate) enum Part {
     Record { address: u16, count: u16 },
     Tail(u16),

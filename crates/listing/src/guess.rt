@@ -4,7 +4,7 @@ ghost use Rattle.std.specs.Prelude.{◌≡◌, ◌≤◌};
 ghost use Rattle.listing.specs.Inner.Guess.{told, memory_names, operation_names, two_forms, carry_names, a_names, be_names, bn_names, b_names, c_names, d_names, jsr_names, j_names, m_names, n_names, r_names, s_names, names, guess_of};
 
 // What tells a line's row. The fourth byte counts where the line is longer: in a shorter one a digit may stand there.
-#[derive(Drop)]
+#[derive(Clone, Copy)]
 pub(crate) struct Start {
     pub length: usize,
     pub first: u8,

@@ -1,4 +1,5 @@
 // The disassembler (document 01's lister) and the one-line assembler: what line stands for which words.
+#![tactic(auto)]
 ghost use Rattle.std.specs.Prelude.{◌≡◌};
 ghost use Rattle.memory.specs.Bus.{bus_on};
 ghost use Rattle.refusal.specs.Report.{answered};
@@ -18,7 +19,7 @@ mod line;
 mod rows;
 
 // What the disassembler answers: the text's length, the words used, and D for the next address; or why it refuses.
-#[derive(Drop)]
+#[derive(Clone, Copy)]
 pub enum Listing {
     Refused(Refusal),
     Listed {
@@ -29,7 +30,7 @@ pub enum Listing {
 }
 
 // What the assembler answers: the line's words; or why it refuses.
-#[derive(Drop)]
+#[derive(Clone, Copy)]
 pub enum Assembly {
     Refused(Refusal),
     One(u16),

@@ -8,7 +8,7 @@ ghost use Rattle.listing.specs.Inner.Table.{padded_of, OfRegisters};
 use crate::rows::{END, WIDTH};
 
 // A row of the table with the fields s and d and the operand. A field that the row does not show is 0.
-#[derive(Drop)]
+#[derive(Clone, Copy)]
 pub(crate) struct Line {
     pub row: usize,
     pub s: u16,

@@ -9,7 +9,7 @@ pub(crate) const WIDTH: usize = 14;
 
 pub(crate) const END: u8 = b'~';
 
-#[derive(Drop)]
+#[derive(Clone, Copy)]
 pub(crate) struct TableRow {
     pub template: [u8; 14],
     pub base: u16,

@@ -1,4 +1,5 @@
 // The wait meter: after how many cycles a request is heard, from an address and over a region, found by a walk over the code.
+#![tactic(auto)]
 ghost use Rattle.std.specs.Prelude.{◌≡◌};
 ghost use Rattle.refusal.specs.Report.{answered};
 ghost use Rattle.memory.specs.Bus.{bus_on};
@@ -16,7 +17,7 @@ mod scan;
 mod walk;
 
 // What the walk from an address answers.
-#[derive(Drop)]
+#[derive(Clone, Copy)]
 pub enum Walked {
     // a request is heard after so many cycles
     Wait { cycles: u16 },
@@ -28,27 +29,27 @@ pub enum Walked {
     Unspecified { address: u16 },
 }
 
-#[derive(Drop)]
+#[derive(Clone, Copy)]
 pub enum WaitAnswer {
     Refused(Refusal),
     Answered(Walked),
 }
 
 // The longest wait of a region and the lowest start that has it.
-#[derive(Drop)]
+#[derive(Clone, Copy)]
 pub enum LongestWait {
     NoWait,
     Cycles { cycles: u16, start: u16 },
 }
 
 // The lowest start of a region whose wait is over the limit.
-#[derive(Drop)]
+#[derive(Clone, Copy)]
 pub enum LowestOver {
     NoOver,
     At { start: u16 },
 }
 
-#[derive(Drop)]
+#[derive(Clone, Copy)]
 pub enum RegionAnswer {
     Refused(Refusal),
     Found {

@@ -17,7 +17,7 @@ use memory::near;
 pub(crate) const EVERY_ADDRESS: u64 = 0xFFFF_FFFF_FFFF_FFFF;
 
 // What the starts so far name.
-#[derive(Drop)]
+#[derive(Clone, Copy)]
 pub(crate) struct Findings {
     pub(crate) longest: LongestWait,
     pub(crate) lowest: LowestOver,

@@ -12,7 +12,7 @@ pub(crate) const HIGHEST_LIMIT: u16 = 4096;
 const DEFAULT_LIMIT: u16 = 48;
 
 // Where the walk stands: before the instruction at an address, with D and the cycles so far. (Public, since `guarantees` names it.)
-#[derive(Drop)]
+#[derive(Clone, Copy)]
 pub struct Place {
     pub address: u16,
     pub double: bool,
@@ -20,7 +20,7 @@ pub struct Place {
 }
 
 // What one instruction leads to: the walk's answer, or the place after it.
-#[derive(Drop)]
+#[derive(Clone, Copy)]
 pub(crate) enum Next {
     Ends(Walked),
     GoesOn(Place),

@@ -1,6 +1,7 @@
 // The metering program: reads an image from standard input, and writes the waits of its records or why it is refused.
 // The text is made whole before any of it is written. A program has no exit status to say that something went wrong, so that it says so on
 // standard error, which stays empty otherwise.
+#![tactic(auto)]
 use libc::{STDERR_FILENO, STDIN_FILENO, STDOUT_FILENO};
 use report::Program;
 

@@ -8,7 +8,7 @@ use crate::line;
 use crate::line::{Front, Mapping};
 
 // How many mappings there are, how many words of the flat file they name, from the first on, and how many words of memory they reach.
-#[derive(Drop)]
+#[derive(Clone, Copy)]
 pub(crate) enum Checked {
     Listed {
         count: usize,

@@ -1,5 +1,6 @@
 // Pairs: a flat file of big-endian words (bin) beside a mapping text (cfg), whose lines say which words of the file go where. The reader
 // and the writer.
+#![tactic(auto)]
 ghost use Rattle.std.specs.Prelude.{◌≡◌, ◌<◌, ◌≤◌, length};
 ghost use Rattle.records.specs.Records.{overwrite};
 ghost use Rattle.records.specs.Loading.{loaded};
@@ -21,7 +22,7 @@ use crate::check::Checked;
 use crate::line::Mapping;
 
 // The lengths of the flat file and of the text, or why neither was written.
-#[derive(Drop)]
+#[derive(Clone, Copy)]
 pub enum PairAnswer {
     Refused(Refusal),
     Written { bin: usize, cfg: usize },

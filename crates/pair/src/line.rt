@@ -5,7 +5,7 @@ ghost use Rattle.pair.specs.Format.{mapping_line, line_bytes};
 ghost use Rattle.pair.specs.Read.{number_at, mapping_at, begins_with, front_of};
 
 // The words of the flat file from `first` to `last` go to the address `target` and on.
-#[derive(Drop)]
+#[derive(Clone, Copy)]
 pub(crate) struct Mapping {
     pub first: u16,
     pub last: u16,
@@ -13,7 +13,7 @@ pub(crate) struct Mapping {
 }
 
 // What stands at the front of the lines.
-#[derive(Drop)]
+#[derive(Clone, Copy)]
 pub(crate) enum Front {
     Blank,
     Line(Mapping),

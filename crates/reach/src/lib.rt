@@ -1,5 +1,6 @@
 // The set of reached addresses: every address to which a path leads from an entry point, over unchanged memory. Waits start there, and not at
 // operands and data.
+#![tactic(auto)]
 ghost use Rattle.memory.specs.Bus.{bus_on};
 ghost use Rattle.reach.specs.Answer.{reach_report};
 ghost use Rattle.reach.specs.Reach.{Reaches};
@@ -13,13 +14,13 @@ mod explore;
 mod ways;
 
 // A place on a path: an address, and the double-byte mark D with which it is reached.
-#[derive(Drop)]
+#[derive(Clone, Copy)]
 pub struct Node {
     pub address: u16,
     pub double: bool,
 }
 
-#[derive(Drop)]
+#[derive(Clone, Copy)]
 pub enum ReachAnswer {
     Refused(Refusal),
     // how many addresses are in the set; how many of them, and the lowest, hold a row that ends a path by a write to R7

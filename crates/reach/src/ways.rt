@@ -12,7 +12,7 @@ use decode::{Decoded, Instr, fields, rows};
 use memory::map::{Board, Range};
 
 // It ends, by a write to R7 or otherwise; or it goes on at one node, or at one node and at a target, which is reached with D clear.
-#[derive(Drop)]
+#[derive(Clone, Copy)]
 pub(crate) enum Ways {
     End,
     Writes,

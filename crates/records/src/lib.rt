@@ -1,5 +1,6 @@
 // Records: words that are put into memory at addresses, and regions that are taken from it. There is nothing of bytes or files here; a
 // file's form is the business of the crate that reads it.
+#![tactic(auto)]
 ghost use Rattle.std.specs.Prelude.{◌≡◌};
 ghost use Rattle.records.specs.Records.{is_within};
 ghost use Rattle.records.specs.Region.{region_admission};
@@ -8,7 +9,7 @@ use memory::Admission;
 use refusal::Refusal;
 
 // How many records were put into memory, or why none was.
-#[derive(Drop)]
+#[derive(Clone, Copy)]
 pub enum LoadAnswer {
     Refused(Refusal),
     Loaded(usize),

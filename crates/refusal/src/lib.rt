@@ -1,9 +1,11 @@
 // The refusals: every way in which a call of the kit says no.
+#![tactic(auto)]
+
 ghost use Rattle.std.specs.Prelude.{◌≡◌};
 ghost use Rattle.refusal.specs.Refusals.{refusal_number};
 
 // In the order of document 01's table "Refusal numbers", which document 02 goes on with.
-#[derive(Drop)]
+#[derive(Clone, Copy)]
 pub enum Refusal {
     MemoryTooLong,
     Halted,

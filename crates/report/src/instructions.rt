@@ -11,7 +11,7 @@ use listing::Listing;
 use memory::map;
 
 // Behind an instruction's line: the place in the room, the instruction's words, and D for the next one.
-#[derive(Drop)]
+#[derive(Clone, Copy)]
 pub(crate) struct NextLine {
     pub at: usize,
     pub words: u16,

@@ -1,4 +1,5 @@
 // The texts that the listing program and the metering program print of an image, as functions of the input's bytes.
+#![tactic(auto)]
 ghost use Rattle.std.specs.Prelude.{◌≡◌, ◌≤◌, length};
 ghost use Rattle.image.specs.Load.{load_of};
 ghost use Rattle.report.specs.Reading.{board_number, board_words, input_limit, read_room, input_of, reading_after, reading_of};
@@ -14,14 +15,14 @@ mod page;
 mod regions;
 
 // Which of the two programs.
-#[derive(Drop)]
+#[derive(Clone, Copy)]
 pub enum Program {
     ListImage,
     MeterImage,
 }
 
 // What was printed: the size of the text, and whether it says that the input is refused.
-#[derive(Drop)]
+#[derive(Clone, Copy)]
 pub struct Printed {
     pub size: usize,
     pub refused: bool,

@@ -9,7 +9,7 @@ ghost use Rattle.report.specs.Inner.Page.{Puts};
 use refusal::Refusal;
 
 // How far the room is filled, and how many lines of records are in it.
-#[derive(Drop)]
+#[derive(Clone, Copy)]
 pub(crate) struct Page {
     pub at: usize,
     pub lines: usize,

@@ -1,5 +1,6 @@
 // The run: steps with fixed lines, until a budget of cycles is spent, the machine halts, or the next step is refused for an
 // unspecified form.
+#![tactic(auto)]
 ghost use Rattle.std.specs.Prelude.{◌≡◌, ◌+◌, ◌<◌, ◌≤◌};
 ghost use Rattle.memory.specs.Bus.{bus_on};
 ghost use Rattle.cpu.specs.Machine.{machine_of};
@@ -14,7 +15,7 @@ use memory::{Admission, near};
 use refusal::Refusal;
 
 // What ended a run.
-#[derive(Drop)]
+#[derive(Clone, Copy)]
 pub enum Cause {
     Halted,
     Unspecified,
@@ -22,7 +23,7 @@ pub enum Cause {
 }
 
 // Steps, cycles and the cause of the end, or why the run was refused.
-#[derive(Drop)]
+#[derive(Clone, Copy)]
 pub enum RunAnswer {
     Refused(Refusal),
     Ended {
@@ -32,7 +33,7 @@ pub enum RunAnswer {
     },
 }
 
-#[derive(Drop)]
+#[derive(Clone, Copy)]
 pub struct Ran {
     pub state: State,
     pub answer: RunAnswer,
@@ -40,7 +41,7 @@ pub struct Ran {
 
 // Where the loop stopped: the steps that it made and the sum of their cycles, and what the last step tried left. Before the first that is
 // the state given and a grant of 0 cycles.
-#[derive(Drop)]
+#[derive(Clone, Copy)]
 struct Stop {
     state: State,
     steps: u32,

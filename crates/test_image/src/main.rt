@@ -1,5 +1,6 @@
 // Runs hand-made cases of the image loader and writer. Prints a line for each case, its name with `ok` or `FAILED`, and last the counts.
 // The cases stand in the file `stdin`, whose head says how a case is written.
+#![tactic(auto)]
 mod build;
 mod call;
 mod pattern;

@@ -3,7 +3,7 @@ use crate::{pattern, pieces};
 use harness::{answer, fields, form, words};
 
 // The board, the memory's words, the region, and the room's bytes.
-#[derive(Drop)]
+#[derive(Clone, Copy)]
 pub(crate) struct Call {
     pub board: u16,
     pub words: usize,
@@ -13,7 +13,7 @@ pub(crate) struct Call {
 }
 
 // A number of records or a length, or the number of a refusal.
-#[derive(Drop)]
+#[derive(Clone, Copy)]
 pub(crate) struct Answer {
     pub refused: bool,
     pub number: usize,

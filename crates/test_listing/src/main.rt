@@ -1,5 +1,6 @@
 // Runs hand-made cases of the disassembler and the assembler. Prints a line for each case, its first row with `ok` or `FAILED`, and last the
 // counts. The cases stand in the file `stdin`, whose head says how a case is written.
+#![tactic(auto)]
 mod assemble;
 mod list;
 

@@ -3,7 +3,7 @@ use harness::text;
 use listing::{Assembly, Listing};
 use memory::map;
 
-#[derive(Drop)]
+#[derive(Clone, Copy)]
 pub(crate) struct Line {
     pub text: [u8; 16],
     pub length: usize,

@@ -1,5 +1,6 @@
 // Lists and assembles every opcode: the lines of an outside disassembler, which stand on standard input; each opcode under both D there and
 // back; and wrong lines. Prints each outside line that differs, and how many went well.
+#![tactic(auto)]
 mod line;
 mod outside;
 mod sweep;

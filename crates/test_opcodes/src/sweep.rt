@@ -5,7 +5,7 @@ use harness::text;
 use listing::Assembly;
 use refusal::Refusal;
 
-#[derive(Drop)]
+#[derive(Clone, Copy)]
 struct Counts {
     listed: u64,
     one: u64,

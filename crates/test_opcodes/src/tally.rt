@@ -1,7 +1,7 @@
 // Counts of what was tried and of what went well.
 use libc::STDOUT_FILENO;
 
-#[derive(Drop)]
+#[derive(Clone, Copy)]
 pub(crate) struct Tally {
     pub tried: u64,
     pub well: u64,

@@ -1,5 +1,6 @@
 // Runs hand-made cases of the reader and the writer of pairs. Prints a line for each case, its name with `ok` or `FAILED`, and last the
 // counts. The cases stand in the file `stdin`, whose head says how a case is written.
+#![tactic(auto)]
 mod build;
 mod call;
 mod row;

@@ -2,7 +2,7 @@
 use harness::{answer, fields, form, words};
 
 // How much is lent to a call: the words of the memory, and the bytes of the flat file and of the text, or of their rooms.
-#[derive(Drop)]
+#[derive(Clone, Copy)]
 pub(crate) struct Lent {
     pub words: usize,
     pub bin: usize,
@@ -10,7 +10,7 @@ pub(crate) struct Lent {
 }
 
 // The number of a refusal; or the number of lines; or the length of a flat file, and that of its text.
-#[derive(Drop)]
+#[derive(Clone, Copy)]
 pub(crate) struct Answer {
     pub refused: bool,
     pub number: usize,

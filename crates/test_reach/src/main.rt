@@ -1,5 +1,6 @@
 // Runs hand-made cases of the set of reached addresses and of the region meter that takes it. Prints a line for each case, its name with `ok`
 // or `FAILED`, and last the counts. The cases stand in the file `stdin`, whose head says how a case is written.
+#![tactic(auto)]
 mod build;
 mod call;
 mod members;

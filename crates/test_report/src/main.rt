@@ -1,5 +1,6 @@
 // Prints what both programs print of hand-made inputs: for each case a line with its name, the listing, and the metering. The cases stand in
 // the file `stdin`, whose head says how a case is written, and `stdout` has what is to be printed.
+#![tactic(auto)]
 mod build;
 
 use harness::{fields, text};

@@ -1,5 +1,6 @@
 // Runs the rows of the shifts through carry as steps. Prints each row that fails, behind what differs, and last the counts. The rows stand
 // in the file `stdin`, whose head says how one is written; the script tests/shift-rows makes it.
+#![tactic(auto)]
 mod rows;
 
 use cpu::{Lines, StepAnswer};

@@ -12,7 +12,7 @@ pub(crate) fn name_of(names: &[u8], letter: u8) -> &[u8] {
     fields::value(names, &[letter])
 }
 
-#[derive(Drop)]
+#[derive(Clone, Copy)]
 pub(crate) struct Answer {
     pub letter: u8,
     pub steps: u64,

@@ -1,5 +1,6 @@
 // Runs hand-made cases of the processor's step and of the run. Prints a line for each case, its name with `ok` or with what differs,
 // and last the counts. The cases stand in the file `stdin`, whose head says how a case is written.
+#![tactic(auto)]
 mod answer;
 mod rows;
 mod verdict;
@@ -16,7 +17,7 @@ const INPUT_ROOM: usize = 262144;
 const MEMORY_ROOM: usize = 65537;
 
 // What a call left beside the memory.
-#[derive(Drop)]
+#[derive(Clone, Copy)]
 struct Left {
     state: State,
     answer: Answer,

@@ -6,7 +6,7 @@ use harness::words;
 use memory::map;
 
 // What of the outcome is not as the vector has it.
-#[derive(Drop)]
+#[derive(Clone, Copy)]
 pub(crate) struct Differences {
     pub registers: bool,
     pub flags: bool,
@@ -14,7 +14,7 @@ pub(crate) struct Differences {
     pub memory: bool,
 }
 
-#[derive(Drop)]
+#[derive(Clone, Copy)]
 pub(crate) enum Verdict {
     Agrees,
     Differs(Differences),

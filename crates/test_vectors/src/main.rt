@@ -1,5 +1,6 @@
 // Runs the vectors of standard input, one a line, through the proved step. Prints each line on which the step does not agree, and at the
 // end how many there were. README.md says where the vectors come from.
+#![tactic(auto)]
 mod compare;
 mod parse;
 mod report;

@@ -6,7 +6,7 @@ use crate::compare::{Differences, Verdict};
 use libc::STDOUT_FILENO;
 
 // The vectors that were run, those that do not agree, and the lines that are no vector.
-#[derive(Drop)]
+#[derive(Clone, Copy)]
 pub(crate) struct Tally {
     pub vectors: u64,
     pub mismatches: u64,

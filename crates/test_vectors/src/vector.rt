@@ -7,7 +7,7 @@ use cpu::{State, Status};
 pub(crate) type Memory = [u16; 65536];
 
 // Flags and registers, and the place after them.
-#[derive(Drop)]
+#[derive(Clone, Copy)]
 pub(crate) struct Machine {
     pub s: bool,
     pub z: bool,
@@ -18,7 +18,7 @@ pub(crate) struct Machine {
 }
 
 // `ADDRESS=WORD`, and the place after it.
-#[derive(Drop)]
+#[derive(Clone, Copy)]
 struct Cell {
     address: u16,
     word: u16,
@@ -26,7 +26,7 @@ struct Cell {
 }
 
 // What stands on a line, but for the memory, which lies in two arrays beside it. `good` is false where the line is malformed.
-#[derive(Drop)]
+#[derive(Clone, Copy)]
 pub(crate) struct Vector {
     pub before: State,
     pub after: Machine,

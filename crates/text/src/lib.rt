@@ -1,4 +1,5 @@
 // Texts: the hexadecimal digits of numbers.
+#![tactic(auto)]
 ghost use Rattle.std.specs.Prelude.{◌≡◌, ◌%◌};
 ghost use Rattle.text.specs.Text.{digit_of, hex_of, digit_value};
 
