@@ -1,5 +1,4 @@
 -- `near::fetch`: the lent word where the address is not empty.
-use borrow.Author.Rules.{rules}
 use Prim.Native.Nat.{ℕ}
 use mathlib.Core.Bool.{true, false, not}
 use mathlib.Core.List.{List}
@@ -8,8 +7,7 @@ use Rattle.memory.specs.Memory.{peek_of}
 use Rattle.memory.specs.Map.{Cell, rom, ram16, ram8, empty, cell_at, read_as}
 use Rattle.memory.specs.Bus.{read_of}
 use Rattle.memory.specs.Near.{in_front, is_empty}
-use Rattle.memory.proofs.near.fetch.Statement.{statement}
-use Rattle.memory.proofs.near.fetch.Tie as tie
+use Rattle.memory.proofs.near.fetch.Goals as goal
 
 -- what is there reads as lent, and what is not as $FFFF
 read-lent : (p : Cell) (m : List ℕ) (a : ℕ) → true ≡ not (is_empty p) → peek_of m a ≡ read_as p m a
@@ -24,19 +22,14 @@ read_none ram16 m a e = cc
 read_none ram8 m a e = cc
 read_none empty m a e = refl
 
-returns : tie.Need-returns
+pub returns-then-found : goal.returns-then-found
 unfolding read_of
-returns c =
-    let f = c.before.before.before in
-    let a = f.before.before.args in
-    (f.look_up.ensures.0, c.lent.ensures ∙ read-lent (cell_at (in_front a.near a.board) a.address) a.mem.now a.address (sym c.before.if1.true ∙ f.look_up.ensures.1))
+returns-then-found c =
+    let a = c.args in
+    record { near = c.look_up-found.ensures.near; word = c.lent.ensures ∙ read-lent (cell_at (in_front a.near a.board) a.address) a.mem.now a.address (sym c.if-found.true ∙ c.look_up-found.ensures.there) }
 
-returns-2 : tie.Need-returns-2
+pub returns-else-found : goal.returns-else-found
 unfolding read_of
-returns-2 c =
-    let f = c.before.before in
-    let a = f.before.before.args in
-    (f.look_up.ensures.0, read_none (cell_at (in_front a.near a.board) a.address) a.mem.now a.address (sym c.if1.false ∙ f.look_up.ensures.1))
-
-pub fetch_spec : {M : Type 1} → statement M
-fetch_spec = tie.close (tie.spec (λ c κs. search rules) (λ c κs. search rules) returns returns-2)
+returns-else-found c =
+    let a = c.args in
+    record { near = c.look_up-found.ensures.near; word = read_none (cell_at (in_front a.near a.board) a.address) a.mem.now a.address (sym c.if-found.false ∙ c.look_up-found.ensures.there) }
