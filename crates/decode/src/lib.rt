@@ -1,6 +1,7 @@
 // The decoder: from an address and the double-byte mark D to the instruction that stands there. Step, meter and disassembler
 // share it, and with it the one decision which forms are unspecified.
 #![tactic(auto)]
+
 ghost use Rattle.std.specs.Prelude.{◌≡◌};
 ghost use Rattle.memory.specs.Bus.{bus_on, read_of};
 ghost use Rattle.memory.specs.Near.{in_front};

@@ -1,6 +1,6 @@
 -- The laws of a bus, of the store of a step, and of admission.
 use Prim.Native.Nat.{ℕ, ◌%◌, ◌<◌, ◌≤◌}
-use mathlib.Core.Path.{◌≡◌, refl, ap, sym, ◌∙◌}
+use mathlib.Core.Path.{◌≡◌, refl, ap, ◌∙◌}
 use mathlib.Core.Bool.{Bool, true, false, cond, ◌&&◌}
 use mathlib.Core.List.{List, [], ◌∷◌}
 use native.Mathlib.Omega.{arith}
@@ -15,7 +15,7 @@ use Rattle.memory.specs.declared.map.Board.{Board}
 use Rattle.memory.specs.Memory.{peek_of}
 use Rattle.memory.specs.Map.{Cell, rom, ram16, ram8, empty, cell_at, read_as, store_as}
 use Rattle.memory.specs.Bus.{Access, plain, mapped, Bus, bus_of, bus_on, read_of, store_of, Store, keep, put, stored, map_admission, admission_of, unless_barred}
-use Rattle.memory.specs.Laws.{Words, BusWords, AgreeAt, is_ram, is_storable, takes_store, BusLaws}
+use Rattle.memory.specs.Laws.{Words, BusWords, AgreeAt, is_ram, takes_store, BusLaws}
 use Rattle.memory.proofs.Laws.{get_d-within, poke-word, poke-laws}
 
 -- a bus by how its words are reached

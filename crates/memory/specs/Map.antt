@@ -1,6 +1,6 @@
 -- Document 02, [1]: "a board map beside the memory: up to 16 ranges, each ROM, 16-bit RAM or 8-bit RAM, first match deciding, unmatched words
 -- empty."
-use Rattle.std.specs.Prelude.{ℕ, ◌%◌, Bool, true, false, cond, ◌&&◌, ◌||◌, List, [], ◌∷◌, leb, ltb, take, replicate}
+use Rattle.std.specs.Prelude.{ℕ, ◌%◌, Bool, false, cond, ◌&&◌, ◌||◌, List, [], ◌∷◌, leb, ltb, take, replicate}
 use Rattle.memory.specs.declared.map.Kind.{Kind}
 use Rattle.memory.specs.declared.map.Kind.TheVariants.{Rom, Ram16, Ram8}
 use Rattle.memory.specs.declared.map.Range.{Range}
