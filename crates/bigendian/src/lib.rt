@@ -1,5 +1,6 @@
 // Numbers of two bytes each, the high byte first, as files have them.
 #![tactic(auto)]
+
 ghost use Rattle.std.specs.Prelude.{◌≡◌, [], ◌∷◌, min, ◌+◌, ◌-◌, ◌*◌, ◌/◌, ◌%◌, ◌<◌, ◌≤◌, length, get_or, take};
 ghost use Rattle.std.proofs.lemmas.List.Edits.{sets};
 ghost use Rattle.bigendian.specs.Numbers.{word_at, words_of, all_words, bytes_of, total, fitting, put_words};

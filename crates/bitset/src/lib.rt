@@ -1,5 +1,6 @@
 // A set of addresses in lent words: one bit an address, 64 to a word, lowest bit first. Words past the end have no members, and take none.
 #![tactic(auto)]
+
 ghost use Rattle.std.specs.Prelude.{◌≡◌, not, length, get_or, replicate};
 ghost use Rattle.bitset.specs.Bits.{contains, inserted, in_either, count_below, lowest_or_none, lowest_below};
 

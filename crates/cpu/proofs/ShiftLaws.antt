@@ -10,13 +10,12 @@ use Rattle.word.specs.Shifts.{shift_once, shift_twice, shift_of}
 use Rattle.word.specs.ThroughCarry.{CarryRow, rlc_row, sllc_row, rrc_row, sarc_row, row_number, form_of, Gives}
 use Rattle.word.proofs.ThroughCarry.{bit-by-bit}
 use Rattle.memory.specs.Memory.{peek_of}
-use Rattle.memory.specs.Bus.{Bus, read_of, admission_of}
+use Rattle.memory.specs.Bus.{read_of, admission_of}
 use Rattle.decode.specs.declared.Instr.{Instr}
 use Rattle.decode.specs.declared.Instr.TheVariants.{Shift}
 use Rattle.decode.specs.Decode.{low_instruction, instruction_of, is_unspecified, decode_at}
 use Rattle.decode.specs.Rows.{row_of}
 use Rattle.decode.proofs.OpcodeLaws.{by-eight}
-use Rattle.cpu.specs.declared.Lines.{Lines}
 use Rattle.cpu.specs.Machine.{Machine, register, with_register, beside, flags_of, result}
 use Rattle.cpu.specs.Single.{shifted, shift}
 use Rattle.cpu.specs.Execute.{begun}

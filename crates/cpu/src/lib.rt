@@ -1,5 +1,6 @@
 // The processor: its state, and one step of it.
 #![tactic(auto)]
+
 ghost use Rattle.std.specs.Prelude.{◌≡◌, false, get_or};
 ghost use Rattle.refusal.specs.Report.{is_refused};
 ghost use Rattle.memory.specs.Bus.{bus_on, read_of};

@@ -1,6 +1,5 @@
 -- Document 01's own file, by computing.
 use mathlib.Core.Path.{refl}
-use mathlib.Core.List.{◌++◌}
 use mathlib.Core.Logic.{inl}
 use native.Mathlib.Omega.{arith}
 use lib.ListN.{replicate}

@@ -1,6 +1,7 @@
 // Image files: the loader and the writer. A file is a head that names its board, records of words with their addresses, and a tail with
 // the sum of all numbers before it.
 #![tactic(auto)]
+
 ghost use Rattle.std.specs.Prelude.{◌≡◌, eqb, length};
 ghost use Rattle.word.specs.Word.{wrap_add};
 ghost use Rattle.records.specs.Loading.{loaded};

@@ -1,22 +1,22 @@
 -- Laws of what stands at the front of a text, and of lines: printed, and read again.
-use Prim.Native.Nat.{ℕ, zero, suc, ◌+◌, ◌-◌, ◌*◌, ◌/◌, ◌%◌, ◌<◌, ◌≤◌}
+use Prim.Native.Nat.{ℕ, suc, ◌+◌, ◌<◌, ◌≤◌}
 use mathlib.Core.Path.{◌≡◌, refl, sym, ap, ◌∙◌}
 use mathlib.Core.Bool.{Bool, true, false, cond, ◌&&◌}
 use mathlib.Core.List.{List, [], ◌∷◌, ◌++◌}
 use mathlib.Core.Logic.{◌⊎◌, inl, inr}
 use native.Mathlib.Omega.{arith}
 use native.Mathlib.Numerals.{add-one}
-use lib.Dec.{eqb, leb}
+use lib.Dec.{eqb}
 use lib.ListN.{length, get_or, drop, length-append}
 use lib.Seq.{drop-cons, drop-length}
 use borrow.Author.Tests.{eq-eqb, ne_eqb, eqb-true, lt-leb, le-leb}
-use Rattle.text.specs.Text.{digit_of, hex_of, digit_value, line_feed}
+use Rattle.text.specs.Text.{hex_of, digit_value, line_feed}
 use Rattle.text.proofs.Digits.{digit-laws}
 use Rattle.text.proofs.Tests.{clash, and_left, and_right}
 use Rattle.pair.specs.declared.line.Mapping.{Mapping}
 use Rattle.pair.specs.declared.line.Front.TheVariants.{Blank, Line, Malformed}
 use Rattle.pair.specs.Format.{mapping_line, line_bytes}
-use Rattle.pair.specs.Read.{number_at, mapping_at, begins_with, is_line, front_of}
+use Rattle.pair.specs.Read.{mapping_at, begins_with, is_line, front_of}
 
 -- a text that is too short does not begin with another
 pub begins-short : (text front : List ℕ) → length text < length front → begins_with text front ≡ false

@@ -1,11 +1,11 @@
 -- Laws of all lines: what a front shows, and the lines by their own rule.
-use Prim.Native.Nat.{ℕ, zero, suc, ◌+◌, ◌-◌, ◌<◌, ◌≤◌}
+use Prim.Native.Nat.{ℕ, zero, suc, ◌<◌, ◌≤◌}
 use mathlib.Core.Path.{◌≡◌, refl, sym, ap, subst, ◌∙◌}
 use mathlib.Core.Bool.{Bool, true, false, cond}
 use mathlib.Core.List.{List, [], ◌∷◌, ◌++◌}
 use native.Mathlib.Omega.{arith}
 use lib.Dec.{eqb, leb}
-use lib.ListN.{length, get_or, drop, length-append, length-drop}
+use lib.ListN.{length, drop, length-append, length-drop}
 use borrow.Author.Tests.{eq-eqb, ne_eqb, eqb-false, leb-true}
 use Rattle.word.proofs.Choice.{cond-true, cond-false}
 use Rattle.text.proofs.Tests.{and_left, and_right}
@@ -14,7 +14,7 @@ use Rattle.pair.specs.declared.line.Front.{Front}
 use Rattle.pair.specs.declared.line.Front.TheVariants.{Blank, Line, Malformed}
 use Rattle.text.specs.Text.{line_feed}
 use Rattle.pair.specs.Format.{mapping_line, line_bytes}
-use Rattle.pair.specs.Read.{mapping_at, begins_with, is_line, front_of, Mappings, listed, malformed, with_mapping, following, mappings_from, mappings_below}
+use Rattle.pair.specs.Read.{mapping_at, begins_with, is_line, front_of, listed, with_mapping, following, mappings_from, mappings_below}
 use Rattle.pair.specs.Laws.{MappingsEquation}
 use Rattle.pair.proofs.FrontLaws.{begins-is, line-length}
 

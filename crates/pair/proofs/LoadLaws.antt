@@ -6,9 +6,9 @@ use mathlib.Core.List.{List, [], ◌∷◌}
 use native.Mathlib.Omega.{arith}
 use native.Mathlib.Decide.{dec_le}
 use native.Mathlib.Numerals.{add-one}
-use lib.Dec.{eqb, ltb, leb, leb-zero}
+use lib.Dec.{ltb, leb, leb-zero}
 use lib.ListN.{length, take, drop, length-take, length-drop}
-use borrow.Author.Tests.{eq-eqb, ne_eqb, lt-ltb, le-ltb, lt-leb, le-leb, ltb-true}
+use borrow.Author.Tests.{eq-eqb, ne_eqb, lt-leb, le-leb, ltb-true}
 use Rattle.refusal.specs.declared.Refusal.TheVariants.{MemoryTooLong, PastMemory, MalformedMapping, MissingFileWords}
 use Rattle.refusal.specs.Report.{answered}
 use Rattle.memory.specs.Memory.{too_long}
@@ -17,7 +17,7 @@ use Rattle.word.proofs.SetsLaws.{rest}
 use Rattle.text.proofs.Tests.{and_left, and_right}
 use Rattle.bigendian.specs.Numbers.{all_words}
 use Rattle.bigendian.proofs.NumberLaws.{words-length}
-use Rattle.records.specs.Records.{is_within, all_within}
+use Rattle.records.specs.Records.{all_within}
 use Rattle.records.specs.Region.{span_of, words_between}
 use Rattle.records.specs.Loading.{Loading, refuse_load}
 use Rattle.pair.specs.declared.line.Mapping.{Mapping}
@@ -25,7 +25,7 @@ use Rattle.pair.specs.declared.check.Checked.{Checked}
 use Rattle.pair.specs.declared.check.Checked.TheVariants.{Listed, Malformed}
 use Rattle.pair.specs.Format.{head_line}
 use Rattle.pair.specs.Read.{begins_with, Mappings, listed, malformed, mappings_below, mappings_of}
-use Rattle.pair.specs.Load.{mapped_records, are_there, has_its_words, targets_tested, lines_tested, load_pair_of}
+use Rattle.pair.specs.Load.{mapped_records, are_there, targets_tested, lines_tested, load_pair_of}
 use Rattle.pair.specs.Inner.Pass.{file_end, target_end, file_ends, target_ends, gathered, Fits, placed_mappings}
 
 -- a bound of the larger of two is one of both

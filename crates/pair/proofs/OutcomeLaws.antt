@@ -2,7 +2,7 @@
 use Prim.Native.Nat.{ℕ, zero, suc, ◌≤◌}
 use mathlib.Core.Path.{◌≡◌, refl, sym, ap, ◌∙◌}
 use mathlib.Core.Bool.{Bool, true, false, cond, ◌||◌}
-use mathlib.Core.List.{List, [], ◌∷◌}
+use mathlib.Core.List.{List}
 use mathlib.Core.Logic.{◌⊎◌, inl, inr}
 use native.Mathlib.Omega.{arith}
 use lib.Dec.{eqb, ltb}
@@ -24,7 +24,7 @@ use Rattle.bigendian.proofs.NumberLaws.{bytes-length}
 use Rattle.records.specs.Records.{all_within, overwrite}
 use Rattle.records.specs.Region.{span_of, words_between, region_admission}
 use Rattle.records.specs.Loading.{RefusesOrLoads}
-use Rattle.records.proofs.LoadLaws.{Region, admitted-region, region-length}
+use Rattle.records.proofs.LoadLaws.{admitted-region, region-length}
 use Rattle.pair.specs.declared.PairAnswer.TheVariants.{Refused, Written}
 use Rattle.pair.specs.declared.line.Mapping.{Mapping}
 use Rattle.pair.specs.declared.line.Front.{Front}

@@ -1,20 +1,18 @@
 -- The loops' invariants, and what each turn of a loop does to them.
-use Prim.Native.Nat.{ℕ, zero, suc, max, ◌+◌, ◌-◌, ◌<◌, ◌≤◌}
+use Prim.Native.Nat.{ℕ, suc, max, ◌+◌, ◌-◌, ◌<◌, ◌≤◌}
 use mathlib.Core.Path.{◌≡◌, refl, sym, ap, ◌∙◌}
-use mathlib.Core.Bool.{Bool, true, false, cond, ◌&&◌}
-use mathlib.Core.List.{List, [], ◌∷◌}
+use mathlib.Core.List.{List}
 use native.Mathlib.Omega.{arith}
-use lib.ListN.{length, get_or, take, drop, length-drop}
+use lib.ListN.{length, take, drop, length-drop}
 use lib.Seq.{drop-drop}
 use Rattle.word.proofs.SetsLaws.{rest}
 use Rattle.pair.specs.declared.line.Mapping.{Mapping}
 use Rattle.pair.specs.declared.line.Front.{Front}
 use Rattle.pair.specs.declared.line.Front.TheVariants.{Blank, Line, Malformed as MalformedFront}
 use Rattle.pair.specs.declared.check.Checked.TheVariants.{Listed, Malformed}
-use Rattle.text.specs.Text.{line_feed}
 use Rattle.pair.specs.Format.{line_bytes}
-use Rattle.pair.specs.Read.{mapping_at, front_of, Mappings, listed, malformed, with_mapping, following, mappings_below}
-use Rattle.pair.specs.Inner.Pass.{file_end, target_end, file_ends, target_ends, gathered, Fits, placed_mappings}
+use Rattle.pair.specs.Read.{front_of, Mappings, listed, malformed, with_mapping, following, mappings_below}
+use Rattle.pair.specs.Inner.Pass.{file_end, target_end, gathered}
 use Rattle.pair.proofs.LinesLaws.{LineShown, line-shown, lines_end, lines-on}
 
 -- The first pass has come to byte `at`: the mappings before it are counted, and reach so far.

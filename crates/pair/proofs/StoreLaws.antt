@@ -1,8 +1,7 @@
 -- Laws of the second pass: the words of a mapping, and what each turn of the loop stores.
 use Prim.Native.Nat.{ℕ, ◌+◌, ◌-◌, ◌*◌, ◌/◌, ◌<◌, ◌≤◌}
 use mathlib.Core.Path.{◌≡◌, refl, sym, ap, subst, ◌∙◌}
-use mathlib.Core.Bool.{Bool, true, false, ◌&&◌}
-use mathlib.Core.List.{List, [], ◌∷◌}
+use mathlib.Core.List.{List}
 use mathlib.Core.Logic.{⊎_elim}
 use native.Mathlib.Omega.{arith}
 use lib.Dec.{ltb}
@@ -11,22 +10,21 @@ use lib.Seq.{sets, drop-drop, get_or-drop}
 use borrow.Author.Tests.{ltb-true}
 use Rattle.word.proofs.SetsLaws.{rest}
 use Rattle.text.proofs.Tests.{and_left, and_right}
-use Rattle.bigendian.specs.Numbers.{words_of, all_words}
+use Rattle.bigendian.specs.Numbers.{all_words}
 use Rattle.bigendian.proofs.NumberLaws.{words-length, words-first, words-own, words-behind}
-use Rattle.records.specs.Records.{overwrite, record_over, all_within}
+use Rattle.records.specs.Records.{overwrite, record_over}
 use Rattle.records.specs.Region.{span_of, words_between}
 use Rattle.records.proofs.OverLaws.{overwrite-sets, overwrite-length}
 use Rattle.records.proofs.PlacedLaws.{split}
 use Rattle.pair.specs.declared.line.Mapping.{Mapping}
-use Rattle.pair.specs.declared.line.Front.{Front}
-use Rattle.pair.specs.declared.line.Front.TheVariants.{Blank, Line, Malformed}
+use Rattle.pair.specs.declared.line.Front.TheVariants.{Line}
 use Rattle.text.specs.Text.{line_feed}
 use Rattle.pair.specs.Format.{line_bytes}
-use Rattle.pair.specs.Read.{mapping_at, is_line, front_of, Mappings, listed, malformed, with_mapping, following, mappings_below}
+use Rattle.pair.specs.Read.{mapping_at, front_of, Mappings, listed, malformed, with_mapping, mappings_below}
 use Rattle.pair.specs.Load.{mapped_records, are_there}
-use Rattle.pair.specs.Inner.Pass.{target_end, Fits, placed_mappings}
+use Rattle.pair.specs.Inner.Pass.{Fits, placed_mappings}
 use Rattle.pair.proofs.FrontLaws.{front-blank, front-other}
-use Rattle.pair.proofs.LinesLaws.{LineShown, line-shown, lines_end, lines-on}
+use Rattle.pair.proofs.LinesLaws.{line-shown, lines_end, lines-on}
 
 -- the words that a mapping names, read off their own part of the flat file
 module _ (bin : List ℕ) (first last : ℕ) (o : first ≤ last) (h : last < length bin / 2) where

@@ -1,18 +1,17 @@
 -- Which texts are taken: reading inverts printing, and a text that is read is a printed one.
 use Prim.Native.Nat.{ℕ, zero, suc, ◌+◌, ◌*◌, ◌/◌, ◌%◌, ◌<◌, ◌≤◌}
 use mathlib.Core.Path.{◌≡◌, refl, sym, ap, subst, ◌∙◌}
-use mathlib.Core.Bool.{Bool, true, false, cond, ◌&&◌}
+use mathlib.Core.Bool.{Bool, true, false, cond}
 use mathlib.Core.List.{List, [], ◌∷◌, ◌++◌}
 use native.Mathlib.Omega.{arith}
-use lib.Dec.{eqb, leb}
 use lib.ListN.{length, get_or, drop, length-drop, length-append}
 use lib.Seq.{drop_at}
-use borrow.Author.Tests.{eqb-true, eqb-false, le-ltb}
+use borrow.Author.Tests.{le-ltb}
 use Rattle.refusal.specs.declared.Refusal.TheVariants.{MemoryTooLong, PastMemory, MissingFileWords}
 use Rattle.refusal.specs.Report.{Report, refused, answered}
 use Rattle.refusal.proofs.ReportLaws.{no_answer, same_answer}
 use Rattle.memory.specs.Memory.{too_long}
-use Rattle.word.proofs.Choice.{cond-true, cond-false}
+use Rattle.word.proofs.Choice.{cond-false}
 use Rattle.text.specs.Text.{digit_of, hex_of, digit_value, line_feed}
 use Rattle.text.proofs.Digits.{digit-laws}
 use Rattle.bigendian.specs.Numbers.{all_words}
@@ -21,10 +20,10 @@ use Rattle.records.specs.Loading.{refuse_load, accept_load}
 use Rattle.pair.specs.declared.line.Mapping.{Mapping}
 use Rattle.pair.specs.declared.line.Front.{Front}
 use Rattle.pair.specs.declared.line.Front.TheVariants.{Blank, Line, Malformed}
-use Rattle.pair.specs.Format.{head_line, mapping_line, line_bytes, Item, blank, mapping, item_text, items_text, mapping_text, mappings_in}
-use Rattle.pair.specs.Read.{number_at, mapping_at, begins_with, front_of, Mappings, listed, malformed, with_mapping, following, mappings_below, mappings_of}
-use Rattle.pair.specs.Load.{mapped_records, has_its_words, targets_tested, lines_tested, load_pair_of}
-use Rattle.pair.specs.Laws.{InDigits, ReadsPrinted, GoodItem, GoodItems, GoodText, TakesTexts}
+use Rattle.pair.specs.Format.{head_line, mapping_line, line_bytes, Item, blank, mapping, items_text, mapping_text, mappings_in}
+use Rattle.pair.specs.Read.{number_at, mapping_at, begins_with, front_of, Mappings, listed, malformed, with_mapping, mappings_below, mappings_of}
+use Rattle.pair.specs.Load.{mapped_records, has_its_words, lines_tested, load_pair_of}
+use Rattle.pair.specs.Laws.{InDigits, ReadsPrinted, GoodItems, GoodText, TakesTexts}
 use Rattle.pair.proofs.FrontLaws.{begins-with, begins-is, line-length, front-blank, front-line}
 use Rattle.pair.proofs.LinesLaws.{line-shown, blank-shown, lines_end, lines-on}
 use Rattle.pair.proofs.LoadLaws.{records-count}

@@ -1,5 +1,5 @@
 -- Reading a written pair: it puts the region back, or is refused by 1 or 11.
-use Prim.Native.Nat.{ℕ, ◌+◌, ◌-◌, ◌*◌, ◌/◌, ◌%◌, ◌<◌, ◌≤◌}
+use Prim.Native.Nat.{ℕ, ◌+◌, ◌-◌, ◌/◌, ◌%◌, ◌<◌, ◌≤◌}
 use mathlib.Core.Path.{◌≡◌, refl, sym, ap, ◌∙◌}
 use mathlib.Core.Bool.{Bool, true, false, cond, ◌||◌}
 use mathlib.Core.List.{List, [], ◌∷◌}
@@ -16,14 +16,14 @@ use Rattle.memory.specs.declared.Admission.TheVariants.{Admitted, Barred}
 use Rattle.memory.specs.Bus.{unless_barred}
 use Rattle.memory.specs.Memory.{too_long}
 use Rattle.word.proofs.Choice.{cond-true, cond-false}
-use Rattle.bigendian.specs.Numbers.{all_words, bytes_of}
+use Rattle.bigendian.specs.Numbers.{bytes_of}
 use Rattle.bigendian.proofs.NumberLaws.{bytes-length, number-laws}
 use Rattle.records.specs.Records.{is_within, overwrite}
 use Rattle.records.specs.Region.{span_of, words_between, region_admission}
 use Rattle.records.specs.Loading.{refuse_load}
 use Rattle.records.proofs.LoadLaws.{Region, admitted-region, region-length, region-within, region-back}
 use Rattle.pair.specs.declared.line.Mapping.{Mapping}
-use Rattle.pair.specs.Format.{mapping, mapping_text}
+use Rattle.pair.specs.Format.{mapping}
 use Rattle.pair.specs.Read.{listed, mappings_of}
 use Rattle.pair.specs.Load.{lines_tested, load_pair_of}
 use Rattle.pair.specs.Answer.{PairLengths}

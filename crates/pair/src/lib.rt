@@ -1,6 +1,7 @@
 // Pairs: a flat file of big-endian words (bin) beside a mapping text (cfg), whose lines say which words of the file go where. The reader
 // and the writer.
 #![tactic(auto)]
+
 ghost use Rattle.std.specs.Prelude.{◌≡◌, ◌<◌, ◌≤◌, length};
 ghost use Rattle.records.specs.Records.{overwrite};
 ghost use Rattle.records.specs.Loading.{loaded};
@@ -80,13 +81,13 @@ fn put_text(first: u16, words: usize, cfg: &mut [u8])
     ensures { cfg.new ≡ overwrite cfg.old 0 (text_for first words) }
 {
     let head = HEAD;
-    bytes::copy(&head, cfg);
+    cfg[..HEAD_BYTES].copy_from_slice(&head);
     let line = line::line_of(Mapping {
         first: 0,
         last: (words - 1) as u16,
         target: first,
     });
-    bytes::copy(&line, &mut cfg[HEAD_BYTES..]);
+    cfg[HEAD_BYTES..TEXT_BYTES].copy_from_slice(&line);
 }
 
 // The pair of a region that begins at the address `first`.

@@ -1,6 +1,7 @@
 // Records: words that are put into memory at addresses, and regions that are taken from it. There is nothing of bytes or files here; a
 // file's form is the business of the crate that reads it.
 #![tactic(auto)]
+
 ghost use Rattle.std.specs.Prelude.{◌≡◌};
 ghost use Rattle.records.specs.Records.{is_within};
 ghost use Rattle.records.specs.Region.{region_admission};

@@ -1,6 +1,7 @@
 // The run: steps with fixed lines, until a budget of cycles is spent, the machine halts, or the next step is refused for an
 // unspecified form.
 #![tactic(auto)]
+
 ghost use Rattle.std.specs.Prelude.{◌≡◌, ◌+◌, ◌<◌, ◌≤◌};
 ghost use Rattle.memory.specs.Bus.{bus_on};
 ghost use Rattle.cpu.specs.Machine.{machine_of};

@@ -1,5 +1,6 @@
 // Texts: the hexadecimal digits of numbers.
 #![tactic(auto)]
+
 ghost use Rattle.std.specs.Prelude.{◌≡◌, ◌%◌};
 ghost use Rattle.text.specs.Text.{digit_of, hex_of, digit_value};
 
