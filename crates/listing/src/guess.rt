@@ -1,5 +1,7 @@
 // The row that a text is of, if it is a line at all: told by the letters that it begins with, and by its length where a name has
 // more forms. A text that is no line gets any row: it is refused later, since the words that it is read as do not list as it.
+#![tactic(auto, using(std::proofs::lemmas::Bool::Decides::nat_tests))]
+
 ghost use Rattle.std.specs.Prelude.{◌≡◌, ◌≤◌};
 ghost use Rattle.listing.specs.Inner.Guess.{told, memory_names, operation_names, two_forms, carry_names, a_names, be_names, bn_names, b_names, c_names, d_names, jsr_names, j_names, m_names, n_names, r_names, s_names, names, guess_of};
 

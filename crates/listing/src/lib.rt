@@ -1,5 +1,6 @@
 // The disassembler (document 01's lister) and the one-line assembler: what line stands for which words.
 #![tactic(auto)]
+
 ghost use Rattle.std.specs.Prelude.{◌≡◌};
 ghost use Rattle.memory.specs.Bus.{bus_on};
 ghost use Rattle.refusal.specs.Report.{answered};

@@ -1,5 +1,6 @@
 // The wait meter: after how many cycles a request is heard, from an address and over a region, found by a walk over the code.
 #![tactic(auto)]
+
 ghost use Rattle.std.specs.Prelude.{◌≡◌};
 ghost use Rattle.refusal.specs.Report.{answered};
 ghost use Rattle.memory.specs.Bus.{bus_on};
