@@ -1,8 +1,8 @@
 /* Loads an image file and runs it for the cycles of one video frame under a console's map, then prints the machine and what its stores
  * changed in each range of the map. A first program to copy from.
  *
- *     rt staticlib cp1610
- *     cc -O2 -Iinclude examples/frame.c target/staticlib/libcp1610.a -o target/frame
+ *     (cd crates/cp1610 && rt lib)
+ *     cc -O2 -Iinclude examples/frame.c crates/cp1610/out/libcp1610.a -o target/frame
  *     target/frame                  the image below
  *     target/frame game.img 7       a file, for board 7 (2 where no board is given)
  *

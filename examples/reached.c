@@ -1,8 +1,8 @@
 /* Loads an image file, asks the meter about a region with every address as a start, builds the set of reached addresses, and asks again
  * with those alone: without the operands and tables of the first answer. A second program to copy from.
  *
- *     rt staticlib cp1610
- *     cc -O2 -Iinclude examples/reached.c target/staticlib/libcp1610.a -o target/reached
+ *     (cd crates/cp1610 && rt lib)
+ *     cc -O2 -Iinclude examples/reached.c crates/cp1610/out/libcp1610.a -o target/reached
  *     target/reached samples/tables.img 5000 502F 5000
  *
  * The arguments are an image for board 2, the first and the last address of the region, and up to 16 entries, all in hexadecimal. The exit

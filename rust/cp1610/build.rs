@@ -6,8 +6,8 @@ use std::path::{Path, PathBuf};
 /// Names the folder of the static library, where it is not the repository's own.
 const FOLDER_VARIABLE: &str = "CP1610_LIB";
 
-/// Where `rt staticlib cp1610` puts it, seen from the repository's root, which is two folders above this crate.
-const USUAL_FOLDER: &str = "target/staticlib";
+/// Where `rt lib` puts it, seen from the repository's root, which is two folders above this crate.
+const USUAL_FOLDER: &str = "crates/cp1610/out";
 
 const LIBRARY: &str = "libcp1610.a";
 
@@ -34,7 +34,7 @@ fn link_library() {
         println!("cargo::rustc-link-lib=static=cp1610");
     } else {
         println!(
-            "cargo::error={} is missing: run `rt staticlib cp1610` at the root of the repository, or name its folder in {FOLDER_VARIABLE}",
+            "cargo::error={} is missing: run `rt lib` in the repository's folder crates/cp1610, or name its folder in {FOLDER_VARIABLE}",
             library.display()
         );
     }

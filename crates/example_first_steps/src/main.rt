@@ -1,7 +1,8 @@
 // Makes a few steps from reset and prints the registers after each: the shortest use of the processor.
 #![tactic(auto)]
+
 use cpu::{Lines, State, StepAnswer};
-use libc::STDOUT_FILENO;
+use std::io;
 
 // The program starts at $1000, where a reset does.
 const PROGRAM: [u16; 6] = [
@@ -15,36 +16,35 @@ const PROGRAM: [u16; 6] = [
     0x009,
 ];
 
-fn print_cycles(answer: StepAnswer) {
+fn print_cycles(rt: &impl Print, answer: StepAnswer) -> io::Result<()> {
     if let StepAnswer::Refused(refusal) = answer {
-        io::write_all(STDOUT_FILENO, b"refused ");
-        io::print_decimal(STDOUT_FILENO, refusal::number(refusal) as u64);
+        let number = refusal::number(refusal);
+        println!(rt; "refused {number}")
     } else {
-        io::print_decimal(STDOUT_FILENO, cpu::cycles(answer));
+        let cycles = cpu::cycles(answer);
+        println!(rt; "{cycles}")
     }
-    io::write_all(STDOUT_FILENO, b"\n");
 }
 
-fn print_register(word: u16) {
-    io::print_hex(STDOUT_FILENO, word as u64, 4);
-    io::write_all(STDOUT_FILENO, b" ");
+fn print_register(rt: &impl Print, word: u16) -> io::Result<()> {
+    print!(rt; "{word:04x} ")
 }
 
 // R0 to R7, and the cycles of the step that left them so.
-fn print_step(registers: [u16; 8], answer: StepAnswer) {
-    print_register(registers[0]);
-    print_register(registers[1]);
-    print_register(registers[2]);
-    print_register(registers[3]);
-    print_register(registers[4]);
-    print_register(registers[5]);
-    print_register(registers[6]);
-    print_register(registers[7]);
-    print_cycles(answer);
+fn print_step(rt: &impl Print, registers: [u16; 8], answer: StepAnswer) -> io::Result<()> {
+    print_register(rt, registers[0])?;
+    print_register(rt, registers[1])?;
+    print_register(rt, registers[2])?;
+    print_register(rt, registers[3])?;
+    print_register(rt, registers[4])?;
+    print_register(rt, registers[5])?;
+    print_register(rt, registers[6])?;
+    print_register(rt, registers[7])?;
+    print_cycles(rt, answer)
 }
 
 // One step with nothing requested, on a board of RAM alone, and the state after it.
-fn shown(state: State, mem: &mut [u16]) -> State {
+fn shown(rt: &impl Print, state: State, mem: &mut [u16]) -> io::Result<State> {
     let lines = Lines {
         intrm: true,
         busrq: true,
@@ -54,11 +54,11 @@ fn shown(state: State, mem: &mut [u16]) -> State {
     let next = after.state;
     let registers = next.registers;
     let answer = after.answer;
-    print_step(registers, answer);
-    next
+    print_step(rt, registers, answer)?;
+    Ok(next)
 }
 
-fn main() {
+fn main(rt: HostRuntime) -> io::Result<()> {
     let mut mem = [0u16; 4102];
     mem[0x1000] = PROGRAM[0];
     mem[0x1001] = PROGRAM[1];
@@ -66,12 +66,10 @@ fn main() {
     mem[0x1003] = PROGRAM[3];
     mem[0x1004] = PROGRAM[4];
     mem[0x1005] = PROGRAM[5];
-    io::write_all(
-        STDOUT_FILENO,
-        b"R0   R1   R2   R3   R4   R5   R6   R7   cycles\n",
-    );
-    let a = shown(cpu::reset(), &mut mem);
-    let b = shown(a, &mut mem);
-    let c = shown(b, &mut mem);
-    shown(c, &mut mem);
+    println!(rt; "R0   R1   R2   R3   R4   R5   R6   R7   cycles")?;
+    let a = shown(&rt, cpu::reset(), &mut mem)?;
+    let b = shown(&rt, a, &mut mem)?;
+    let c = shown(&rt, b, &mut mem)?;
+    shown(&rt, c, &mut mem)?;
+    Ok(())
 }

@@ -1,5 +1,5 @@
 -- Laws of ranges with commas between them, of which i were passed and the rest is left.
-use Rattle.std.proofs.Common.{◌≡◌, ℕ, suc, ◌+◌, ◌-◌, ◌<◌, ◌≤◌, true, false, List, [], ◌∷◌, ◌++◌, length, take, set, sym, refl, ◌∙◌, append_assoc, append-nil, add-one, arith, take_all, take-suc-set}
+use Rattle.std.proofs.Common.{◌≡◌, ℕ, suc, ◌+◌, ◌-◌, ◌<◌, ◌≤◌, true, false, List, ◌++◌, length, take, set, append_assoc, append-nil, add-one, arith, take_all, take-suc-set}
 use Prim.Native.Char.{code}
 use Rattle.memory.specs.declared.map.Range.{Range}
 use Rattle.harness.specs.Text.{part_before, part_behind, stands_in}

@@ -1,5 +1,5 @@
 -- Laws of what stands before and behind a mark, and from a place on.
-use Rattle.std.proofs.Common.{◌≡◌, ℕ, zero, suc, ◌+◌, ◌-◌, ◌<◌, ◌≤◌, Bool, true, false, ◌&&◌, eqb, List, [], ◌∷◌, length, get_or, take, drop, sym, refl, ◌∙◌, le_of_suc-le-suc, add-one, arith, length-drop, take_all, drop-cons, eq-eqb, ne_eqb}
+use Rattle.std.proofs.Common.{◌≡◌, ℕ, zero, suc, ◌+◌, ◌-◌, ◌<◌, ◌≤◌, Bool, true, false, ◌&&◌, eqb, List, [], ◌∷◌, length, get_or, take, drop, refl, le_of_suc-le-suc, add-one, arith, length-drop, take_all, drop-cons, eq-eqb, ne_eqb}
 use Rattle.harness.specs.Text.{length_before, starts_with, stands_in, all_stand_in}
 
 -- a part from a place on is all that stands there

@@ -1,6 +1,10 @@
--- Bytes that are written as pairs of hexadecimal digits.
-use Rattle.std.specs.Prelude.{ℕ, suc, List, [], ◌∷◌, slice_set}
+-- Bytes at the start of a room, and bytes that are written as pairs of hexadecimal digits.
+use Rattle.std.specs.Prelude.{ℕ, suc, ◌≤◌, ◌≡◌, List, [], ◌∷◌, length, take, slice_set}
 use Rattle.harness.specs.Text.{hex_number}
+
+-- n elements stand at the start of xs; the second part follows from the first
+abbrev pub IsPrefixLen : ℕ → List ℕ → Type 0
+IsPrefixLen n xs = (n ≤ length xs) × (n ≡ length (take n xs))
 
 -- the byte of each pair; a last digit that stands alone makes one too
 unfoldable pub pair_bytes : List ℕ → List ℕ

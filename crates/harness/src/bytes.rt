@@ -1,7 +1,6 @@
 // Bytes that are written as pairs of hexadecimal digits, as the values of the form `hex` are: `49440002`.
 ghost use Rattle.std.specs.Prelude.{◌≡◌, min, length};
-ghost use Rattle.io.specs.Counts.{IsPrefixLen};
-ghost use Rattle.harness.specs.Bytes.{pair_bytes, with_bytes};
+ghost use Rattle.harness.specs.Bytes.{IsPrefixLen, pair_bytes, with_bytes};
 
 use crate::text;
 

@@ -1,47 +1,35 @@
 // What a case prints before the end of its line. Each comparison prints what differs and answers whether nothing does, so that all
-// differences of a case are seen.
-ghost use Rattle.std.specs.Prelude.{◌≡◌, false, ◌==◌};
+// differences of a case are seen. The only error is that printing fails.
+ghost use Rattle.std.specs.Prelude.{◌≡◌, false, ◌==◌, IfOk};
 
-use libc::STDOUT_FILENO;
-
-fn say(words: &[u8]) {
-    io::write_all(STDOUT_FILENO, words);
-}
+use std::io;
 
 // A case that is not in its form.
-pub fn malformed() -> bool
-    ensures { result ≡ false }
+pub fn malformed(rt: &impl Print) -> io::Result<bool>
+    ensures { IfOk result (λ well. well ≡ false) }
 {
-    say(b"malformed, ");
-    false
+    rt.write_all(b"malformed, ")?;
+    Ok(false)
 }
 
-pub fn agree(what: &[u8], same: bool) -> bool
-    ensures { result ≡ same }
+pub fn agree(rt: &impl Print, what: &[u8], same: bool) -> io::Result<bool>
+    ensures { IfOk result (λ agrees. agrees ≡ same) }
 {
     if !same {
-        say(what);
-        say(b" differs, ");
+        rt.write_all(what)?;
+        rt.write_all(b" differs, ")?;
     }
-    same
-}
-
-fn say_word(word: u16) {
-    io::print_hex(STDOUT_FILENO, word as u64, 4);
+    Ok(same)
 }
 
 // Shows both words.
-pub fn agree_word(name: &[u8], left: u16, expected: u16) -> bool
-    ensures { result ≡ (left == expected) }
+pub fn agree_word(rt: &impl Print, name: &[u8], left: u16, expected: u16) -> io::Result<bool>
+    ensures { IfOk result (λ agrees. agrees ≡ (left == expected)) }
 {
     let same = left == expected;
     if !same {
-        say(name);
-        say(b" is ");
-        say_word(left);
-        say(b" and not ");
-        say_word(expected);
-        say(b", ");
+        rt.write_all(name)?;
+        print!(rt; " is {left:04x} and not {expected:04x}, ")?;
     }
-    same
+    Ok(same)
 }

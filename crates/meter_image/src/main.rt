@@ -1,20 +1,38 @@
 // The metering program: reads an image from standard input, and writes the waits of its records or why it is refused.
-// The text is made whole before any of it is written. A program has no exit status to say that something went wrong, so that it says so on
-// standard error, which stays empty otherwise.
+// The text is made whole before any of it is written. Whatever went wrong, the exit status is 0: it is said on standard error, which stays
+// empty otherwise.
 #![tactic(auto)]
-use libc::{STDERR_FILENO, STDIN_FILENO, STDOUT_FILENO};
-use report::Program;
 
-fn main() {
+ghost use Rattle.std.specs.Prelude.{◌≤◌, length};
+
+use report::Program;
+use std::io::Read;
+
+// Reads until the room is full, the input ends or a read fails. Answers how many bytes stand at the room's start.
+fn read_full<R: Read>(input: &mut R, room: &mut [u8]) -> usize
+    ensures { result ≤ length room.new }
+{
+    let mut done = 0;
+    while done < room.len() {
+        match input.read(&mut room[done..]) {
+            Ok(0) => break,
+            Ok(count) => done += count,
+            Err(_) => break,
+        }
+    }
+    done
+}
+
+fn main(rt: HostRuntime) {
     let mut input = [0u8; report::READ_ROOM];
-    let count = io::read_full(STDIN_FILENO, &mut input);
+    let count = read_full(&mut rt.stdin(), &mut input);
     let mut text = [0u8; report::TEXT_ROOM];
     let printed = report::print(Program::MeterImage, &input, count, &mut text);
     let size = printed.size;
-    if !io::write_all(STDOUT_FILENO, &text[..size]) {
-        io::write_all(STDERR_FILENO, &report::NOT_WRITTEN);
+    if rt.write_all(&text[..size]).is_err() {
+        let _ = rt.stderr().write_all(&report::NOT_WRITTEN);
     }
     if printed.refused {
-        io::write_all(STDERR_FILENO, &report::IMAGE_REFUSED);
+        let _ = rt.stderr().write_all(&report::IMAGE_REFUSED);
     }
 }

@@ -1,6 +1,7 @@
 // The set of reached addresses: every address to which a path leads from an entry point, over unchanged memory. Waits start there, and not at
 // operands and data.
 #![tactic(auto)]
+
 ghost use Rattle.memory.specs.Bus.{bus_on};
 ghost use Rattle.reach.specs.Answer.{reach_report};
 ghost use Rattle.reach.specs.Reach.{Reaches};

@@ -1,12 +1,13 @@
 // Runs hand-made cases of the disassembler and the assembler. Prints a line for each case, its first row with `ok` or `FAILED`, and last the
 // counts. The cases stand in the file `stdin`, whose head says how a case is written.
 #![tactic(auto)]
+
 mod assemble;
 mod list;
 
 use harness::tally::Tally;
-use harness::{fields, tally, text};
-use libc::{STDIN_FILENO, STDOUT_FILENO};
+use harness::{fields, input, tally, text};
+use std::io;
 
 const INPUT_ROOM: usize = 65536;
 
@@ -27,7 +28,7 @@ fn is_well(first: &[u8], second: &[u8], third: &[u8]) -> bool {
 }
 
 // A row that is no remark is the first of a case's three rows, so that no row is passed over.
-fn run_cases(input: &[u8]) -> Tally {
+fn run_cases(rt: &impl Print, input: &[u8]) -> io::Result<Tally> {
     let mut tally = tally::empty();
     let mut rest = input;
     while rest.len() > 0 {
@@ -38,19 +39,20 @@ fn run_cases(input: &[u8]) -> Tally {
         } else {
             let third = text::after_first_row(second);
             let well = is_well(first, text::first_row(second), text::first_row(third));
-            tally = tally::judge(tally, first, well);
+            tally = tally::judge(rt, tally, first, well)?;
             rest = text::after_first_row(third);
         }
     }
-    tally
+    Ok(tally)
 }
 
-fn main() {
+fn main(rt: HostRuntime) -> io::Result<()> {
     let mut input = [0u8; INPUT_ROOM];
-    let length = io::read_full(STDIN_FILENO, &mut input);
-    let tally = run_cases(&input[..length]);
+    let length = input::read_full(&mut rt.stdin(), &mut input);
+    let tally = run_cases(&rt, &input[..length])?;
     if length == INPUT_ROOM {
-        io::write_all(STDOUT_FILENO, b"the input fills its room, and may be cut\n");
+        rt.write_all(b"the input fills its room, and may be cut\n")?;
     }
-    tally::summary(tally);
+    tally::summary(&rt, tally)?;
+    Ok(())
 }

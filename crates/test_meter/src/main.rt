@@ -1,13 +1,14 @@
 // Runs hand-made cases of the wait meter. Prints a line for each case, its name with `ok` or `FAILED`, and last the counts. The
 // cases stand in the file `stdin`, whose head says how a case is written.
 #![tactic(auto)]
+
 mod regions;
 mod rows;
 mod waits;
 
 use harness::tally::Tally;
-use harness::{fields, tally, text};
-use libc::{STDIN_FILENO, STDOUT_FILENO};
+use harness::{fields, input, tally, text};
+use std::io;
 
 const INPUT_ROOM: usize = 65536;
 
@@ -38,7 +39,7 @@ fn is_well(name: &[u8], before: &[u8], after: &[u8], memory: &mut [u16]) -> bool
 }
 
 // A row that is no remark is the first of a case's three rows, so that no row is passed over.
-fn run_cases(input: &[u8], memory: &mut [u16]) -> Tally {
+fn run_cases(rt: &impl Print, input: &[u8], memory: &mut [u16]) -> io::Result<Tally> {
     let mut tally = tally::empty();
     let mut rest = input;
     while rest.len() > 0 {
@@ -49,20 +50,21 @@ fn run_cases(input: &[u8], memory: &mut [u16]) -> Tally {
         } else {
             let third = text::after_first_row(second);
             let well = is_well(row, text::first_row(second), text::first_row(third), memory);
-            tally = tally::judge(tally, fields::body(row), well);
+            tally = tally::judge(rt, tally, fields::body(row), well)?;
             rest = text::after_first_row(third);
         }
     }
-    tally
+    Ok(tally)
 }
 
-fn main() {
+fn main(rt: HostRuntime) -> io::Result<()> {
     let mut input = [0u8; INPUT_ROOM];
-    let length = io::read_full(STDIN_FILENO, &mut input);
+    let length = input::read_full(&mut rt.stdin(), &mut input);
     let mut memory = [0u16; MEMORY_ROOM];
-    let tally = run_cases(&input[..length], &mut memory);
+    let tally = run_cases(&rt, &input[..length], &mut memory)?;
     if length == INPUT_ROOM {
-        io::write_all(STDOUT_FILENO, b"the input fills its room, and may be cut\n");
+        rt.write_all(b"the input fills its room, and may be cut\n")?;
     }
-    tally::summary(tally);
+    tally::summary(&rt, tally)?;
+    Ok(())
 }

@@ -3,8 +3,9 @@
 //     0   4    9    14     21  25
 //     0 | 0280 F2B3 7F4A | 2 | MVI $F2B3,R0
 use crate::line;
-use crate::tally::{counted, empty, write, write_tally};
+use crate::tally::{counted, empty, write_tally};
 use harness::text;
+use std::io;
 
 // How a row begins: `d` stands for 0 or 1, `0` for a hexadecimal digit, every other byte for itself.
 const SHAPE: [u8; 25] = *b"d | 0000 0000 0000 | 0 | ";
@@ -26,29 +27,37 @@ fn is_shaped(row: &[u8]) -> bool {
     true
 }
 
-fn write_if(differs: bool, name: &[u8]) {
+fn write_if(rt: &impl Print, differs: bool, name: &[u8]) -> io::Result<()> {
     if differs {
-        write(name);
+        rt.write_all(name)?;
     }
+    Ok(())
 }
 
 // Prints a row that is not as written, with what differs.
-fn judged(row: &[u8], shaped: bool, spelled: bool, used: bool, back: bool) -> bool {
+fn judged(
+    rt: &impl Print,
+    row: &[u8],
+    shaped: bool,
+    spelled: bool,
+    used: bool,
+    back: bool,
+) -> io::Result<bool> {
     let well = shaped & spelled & used & back;
     if !well {
-        write(row);
-        write(b":");
-        write_if(!shaped, b" malformed");
-        write_if(!spelled, b" text");
-        write_if(!used, b" words");
-        write_if(!back, b" assembled");
-        write(b"\n");
+        rt.write_all(row)?;
+        rt.write_all(b":")?;
+        write_if(rt, !shaped, b" malformed")?;
+        write_if(rt, !spelled, b" text")?;
+        write_if(rt, !used, b" words")?;
+        write_if(rt, !back, b" assembled")?;
+        rt.write_all(b"\n")?;
     }
-    well
+    Ok(well)
 }
 
 // Lists the words of a row, and assembles its line.
-fn is_as_written(row: &[u8]) -> bool {
+fn is_as_written(rt: &impl Print, row: &[u8]) -> io::Result<bool> {
     let double = text::byte_at(row, 0) == b'1';
     let words = [
         text::hex_word(row, 4),
@@ -60,6 +69,7 @@ fn is_as_written(row: &[u8]) -> bool {
     let count = found.words;
     let answer = listing::assemble(wanted, double);
     judged(
+        rt,
         row,
         is_shaped(row),
         line::is_text(found, wanted),
@@ -68,16 +78,16 @@ fn is_as_written(row: &[u8]) -> bool {
     )
 }
 
-pub(crate) fn run(input: &[u8]) {
+pub(crate) fn run(rt: &impl Print, input: &[u8]) -> io::Result<()> {
     let mut tally = empty();
     let mut rest = input;
     while rest.len() > 0 {
         let row = text::first_row(rest);
         if !text::is_remark(row) {
-            tally = counted(tally, is_as_written(row));
+            tally = counted(tally, is_as_written(rt, row)?);
         }
         let next = text::after_first_row(rest);
         rest = next;
     }
-    write_tally(b"lines of another disassembler", b", as written ", tally);
+    write_tally(rt, "lines of another disassembler", "as written", tally)
 }

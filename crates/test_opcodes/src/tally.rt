@@ -1,5 +1,5 @@
 // Counts of what was tried and of what went well.
-use libc::STDOUT_FILENO;
+use std::io;
 
 #[derive(Clone, Copy)]
 pub(crate) struct Tally {
@@ -27,22 +27,17 @@ pub(crate) fn counted(tally: Tally, well: bool) -> Tally {
     }
 }
 
-pub(crate) fn write(text: &[u8]) {
-    io::write_all(STDOUT_FILENO, text);
+pub(crate) fn write_count(rt: &impl Print, name: &str, count: u64) -> io::Result<()> {
+    println!(rt; "{name}: {count}")
 }
 
-pub(crate) fn write_count(name: &[u8], count: u64) {
-    write(name);
-    write(b": ");
-    io::print_decimal(STDOUT_FILENO, count);
-    write(b"\n");
-}
-
-pub(crate) fn write_tally(name: &[u8], verdict: &[u8], tally: Tally) {
-    write(name);
-    write(b": ");
-    io::print_decimal(STDOUT_FILENO, tally.tried);
-    write(verdict);
-    io::print_decimal(STDOUT_FILENO, tally.well);
-    write(b"\n");
+pub(crate) fn write_tally(
+    rt: &impl Print,
+    name: &str,
+    verdict: &str,
+    tally: Tally,
+) -> io::Result<()> {
+    let tried = tally.tried;
+    let well = tally.well;
+    println!(rt; "{name}: {tried}, {verdict} {well}")
 }

@@ -3,6 +3,7 @@
 use crate::line::line_of;
 use crate::tally::{Tally, counted, empty, write_tally};
 use listing::Assembly;
+use std::io;
 
 // No line has this byte.
 const STRANGE: u8 = b'?';
@@ -109,7 +110,7 @@ fn deleted(tally: Tally, line: [u8; 16], length: usize, double: bool) -> Tally {
 }
 
 // Of 004 the second word makes a call, and no operand shows a letter.
-pub(crate) fn run() {
+pub(crate) fn run(rt: &impl Print) -> io::Result<()> {
     let mut strange = empty();
     let mut small = empty();
     let mut longer = empty();
@@ -126,8 +127,8 @@ pub(crate) fn run() {
         shorter = deleted(shorter, text, length, double);
         k += 1;
     }
-    write_tally(b"one byte changed", b", refused ", strange);
-    write_tally(b"one letter in lower case", b", refused ", small);
-    write_tally(b"one space inserted", b", refused ", longer);
-    write_tally(b"first or last byte deleted", b", refused ", shorter);
+    write_tally(rt, "one byte changed", "refused", strange)?;
+    write_tally(rt, "one letter in lower case", "refused", small)?;
+    write_tally(rt, "one space inserted", "refused", longer)?;
+    write_tally(rt, "first or last byte deleted", "refused", shorter)
 }

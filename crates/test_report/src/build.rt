@@ -1,6 +1,6 @@
 // The input of a case: the bytes of `file`, and so many words of one value before the byte at a place.
 ghost use Rattle.std.specs.Prelude.{◌≤◌, length};
-ghost use Rattle.io.specs.Counts.{IsPrefixLen};
+ghost use Rattle.harness.specs.Bytes.{IsPrefixLen};
 
 use harness::{fields, form, text};
 

@@ -1,6 +1,7 @@
 // Runs hand-made cases of the processor's step and of the run. Prints a line for each case, its name with `ok` or with what differs,
 // and last the counts. The cases stand in the file `stdin`, whose head says how a case is written.
 #![tactic(auto)]
+
 mod answer;
 mod rows;
 mod verdict;
@@ -8,8 +9,8 @@ mod verdict;
 use crate::answer::Answer;
 use cpu::State;
 use harness::tally::Tally;
-use harness::{case, fields, machine, tally, text};
-use libc::STDIN_FILENO;
+use harness::{case, fields, input, machine, tally, text};
+use std::io;
 
 const INPUT_ROOM: usize = 262144;
 
@@ -66,38 +67,43 @@ fn left_by(name: &[u8], before: &[u8], memory: &mut [u16]) -> Left {
 // Makes the call, and compares what it left with what the case says: registers, flags, marks, the answer, and every word of the
 // memory. `expected` is the memory's twin, which gets the stores that the case names.
 fn call_agrees(
+    rt: &impl Print,
     name: &[u8],
     before: &[u8],
     after: &[u8],
     memory: &mut [u16],
     expected: &mut [u16],
-) -> bool {
+) -> io::Result<bool> {
     rows::lay_before(memory, before);
     rows::lay_after(expected, before, after);
     let left = left_by(name, before, memory);
     let state = left.state;
     let given = left.answer;
-    machine::agree(state, rows::state_after(before, after))
-        & verdict::agree_answer(given, after)
-        & verdict::agree_memory(memory, expected)
+    Ok(
+        machine::agree(rt, state, rows::state_after(before, after))?
+            & verdict::agree_answer(rt, given, after)?
+            & verdict::agree_memory(rt, memory, expected)?,
+    )
 }
 
 // Lends the call as many words as the case says.
 fn sized_call_agrees(
+    rt: &impl Print,
     name: &[u8],
     before: &[u8],
     after: &[u8],
     memory: &mut [u16],
     expected: &mut [u16],
-) -> bool {
+) -> io::Result<bool> {
     let size = rows::size_of(before);
     if memory.len() < size {
-        return case::malformed();
+        return case::malformed(rt);
     }
     if expected.len() < size {
-        return case::malformed();
+        return case::malformed(rt);
     }
     call_agrees(
+        rt,
         name,
         before,
         after,
@@ -108,16 +114,18 @@ fn sized_call_agrees(
 
 // Prints what the line of the case with these rows begins with, and answers whether all went well.
 fn is_well(
+    rt: &impl Print,
     name: &[u8],
     before: &[u8],
     after: &[u8],
     memory: &mut [u16],
     expected: &mut [u16],
-) -> bool {
-    verdict::say(rows::name_of(name));
-    verdict::say(b": ");
+) -> io::Result<bool> {
+    rt.write_all(rows::name_of(name))?;
+    rt.write_all(b": ")?;
     if rows::are_case(name, before, after) {
         sized_call_agrees(
+            rt,
             name,
             fields::body(before),
             fields::body(after),
@@ -125,12 +133,17 @@ fn is_well(
             expected,
         )
     } else {
-        case::malformed()
+        case::malformed(rt)
     }
 }
 
 // A row that is no remark is the first of a case's three rows, so that no row is passed over.
-fn run_cases(input: &[u8], memory: &mut [u16], expected: &mut [u16]) -> Tally {
+fn run_cases(
+    rt: &impl Print,
+    input: &[u8],
+    memory: &mut [u16],
+    expected: &mut [u16],
+) -> io::Result<Tally> {
     let mut tally = tally::empty();
     let mut rest = input;
     while rest.len() > 0 {
@@ -141,27 +154,29 @@ fn run_cases(input: &[u8], memory: &mut [u16], expected: &mut [u16]) -> Tally {
         } else {
             let third = text::after_first_row(second);
             let well = is_well(
+                rt,
                 row,
                 text::first_row(second),
                 text::first_row(third),
                 memory,
                 expected,
-            );
-            tally = tally::close(tally, well);
+            )?;
+            tally = tally::close(rt, tally, well)?;
             rest = text::after_first_row(third);
         }
     }
-    tally
+    Ok(tally)
 }
 
-fn main() {
+fn main(rt: HostRuntime) -> io::Result<()> {
     let mut input = [0u8; INPUT_ROOM];
-    let length = io::read_full(STDIN_FILENO, &mut input);
+    let length = input::read_full(&mut rt.stdin(), &mut input);
     let mut memory = [0u16; MEMORY_ROOM];
     let mut expected = [0u16; MEMORY_ROOM];
-    let tally = run_cases(&input[..length], &mut memory, &mut expected);
+    let tally = run_cases(&rt, &input[..length], &mut memory, &mut expected)?;
     if length == INPUT_ROOM {
-        verdict::say(b"the input fills its room, and may be cut\n");
+        rt.write_all(b"the input fills its room, and may be cut\n")?;
     }
-    tally::summary(tally);
+    tally::summary(&rt, tally)?;
+    Ok(())
 }

@@ -3,28 +3,19 @@
 use crate::answer;
 use crate::answer::Answer;
 use harness::case;
-use libc::STDOUT_FILENO;
+use std::io;
 
-pub(crate) fn say(words: &[u8]) {
-    io::write_all(STDOUT_FILENO, words);
-}
-
-pub(crate) fn agree_answer(left: Answer, after: &[u8]) -> bool {
+pub(crate) fn agree_answer(rt: &impl Print, left: Answer, after: &[u8]) -> io::Result<bool> {
     if answer::is_told(after, left) {
-        return true;
+        return Ok(true);
     }
-    say(b"the answer is ");
-    say(answer::name_of(&answer::NAMES, left.letter));
-    say_number(b" steps=", left.steps);
-    say_number(b" cycles=", left.cycles);
-    say_number(b" number=", left.number);
-    say(b", ");
-    false
-}
-
-fn say_number(name: &[u8], number: u64) {
-    say(name);
-    io::print_decimal(STDOUT_FILENO, number);
+    rt.write_all(b"the answer is ")?;
+    rt.write_all(answer::name_of(&answer::NAMES, left.letter))?;
+    let steps = left.steps;
+    let cycles = left.cycles;
+    let number = left.number;
+    print!(rt; " steps={steps} cycles={cycles} number={number}, ")?;
+    Ok(false)
 }
 
 fn word_of(memory: &[u16], at: usize) -> u16 {
@@ -43,13 +34,11 @@ fn first_difference(memory: &[u16], expected: &[u16]) -> usize {
     at
 }
 
-pub(crate) fn agree_memory(memory: &[u16], expected: &[u16]) -> bool {
+pub(crate) fn agree_memory(rt: &impl Print, memory: &[u16], expected: &[u16]) -> io::Result<bool> {
     let at = first_difference(memory, expected);
     if memory.len() <= at {
-        return true;
+        return Ok(true);
     }
-    say(b"at ");
-    io::print_hex(STDOUT_FILENO, at as u64, 4);
-    say(b" ");
-    case::agree_word(b"the word", word_of(memory, at), word_of(expected, at))
+    print!(rt; "at {at:04x} ")?;
+    case::agree_word(rt, b"the word", word_of(memory, at), word_of(expected, at))
 }

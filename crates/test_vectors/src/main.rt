@@ -1,6 +1,7 @@
 // Runs the vectors of standard input, one a line, through the proved step. Prints each line on which the step does not agree, and at the
 // end how many there were. README.md says where the vectors come from.
 #![tactic(auto)]
+
 mod compare;
 mod parse;
 mod report;
@@ -8,8 +9,9 @@ mod vector;
 
 ghost use Rattle.std.specs.Prelude.{◌≤◌, length};
 
-use libc::STDIN_FILENO;
+use harness::input;
 use report::Tally;
+use std::io;
 
 // The line feed at or after `start`, or the end of the text.
 fn line_end(text: &[u8], start: usize) -> usize
@@ -26,7 +28,7 @@ fn line_end(text: &[u8], start: usize) -> usize
     end
 }
 
-fn run_lines(text: &[u8]) -> Tally {
+fn run_lines(rt: &impl Print, text: &[u8]) -> io::Result<Tally> {
     let mut tally = Tally {
         vectors: 0,
         mismatches: 0,
@@ -36,23 +38,22 @@ fn run_lines(text: &[u8]) -> Tally {
     let mut start = 0;
     while start < text.len() {
         let end = line_end(text, start);
-        tally = report::count(tally, lines, compare::run_line(&text[start..end]));
+        tally = report::count(rt, tally, lines, compare::run_line(&text[start..end]))?;
         lines += 1;
         if end == text.len() {
             break;
         }
         start = end + 1;
     }
-    tally
+    Ok(tally)
 }
 
 // A full buffer may have cut the input, and a run over a part of the vectors would pass for one over all.
-fn main() {
+fn main(rt: HostRuntime) -> io::Result<()> {
     let mut text = [0u8; 524288];
-    let read = io::read_full(STDIN_FILENO, &mut text);
+    let read = input::read_full(&mut rt.stdin(), &mut text);
     if read == text.len() {
-        report::write_too_long();
-        return;
+        return report::write_too_long(&rt);
     }
-    report::write_summary(run_lines(&text[..read]));
+    report::write_summary(&rt, run_lines(&rt, &text[..read])?)
 }

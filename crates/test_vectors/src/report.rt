@@ -1,9 +1,9 @@
 // Counts the lines, and prints those that are not as they should be, and the counts.
-ghost use Rattle.std.specs.Prelude.{◌+◌, ◌^◌, ◌<◌};
+ghost use Rattle.std.specs.Prelude.{◌+◌, ◌^◌, ◌<◌, IfOk};
 ghost use Rattle.test_vectors.specs.Count.{Counted};
 
 use crate::compare::{Differences, Verdict};
-use libc::STDOUT_FILENO;
+use std::io;
 
 // The vectors that were run, those that do not agree, and the lines that are no vector.
 #[derive(Clone, Copy)]
@@ -13,39 +13,31 @@ pub(crate) struct Tally {
     pub malformed: u64,
 }
 
-fn write(text: &[u8]) {
-    io::write_all(STDOUT_FILENO, text);
-}
-
-fn write_number(n: u64) {
-    io::print_decimal(STDOUT_FILENO, n);
-}
-
-fn write_if(differs: bool, name: &[u8]) {
+fn write_if(rt: &impl Print, differs: bool, name: &str) -> io::Result<()> {
     if differs {
-        write(name);
+        rt.print(name)?;
     }
+    Ok(())
 }
 
-fn write_line_number(number: u64) {
-    write(b"line ");
-    write_number(number);
-    write(b":");
-}
-
-fn write_differences(number: u64, found: Differences) {
-    write_line_number(number);
-    write_if(found.registers, b" registers");
-    write_if(found.flags, b" flags");
-    write_if(found.cycles, b" cycles");
-    write_if(found.memory, b" memory");
-    write(b"\n");
+fn write_differences(rt: &impl Print, number: u64, found: Differences) -> io::Result<()> {
+    print!(rt; "line {number}:")?;
+    write_if(rt, found.registers, " registers")?;
+    write_if(rt, found.flags, " flags")?;
+    write_if(rt, found.cycles, " cycles")?;
+    write_if(rt, found.memory, " memory")?;
+    println!(rt)
 }
 
 // Reports the verdict on the line after the first `lines`, and counts it.
-pub(crate) fn count(tally: Tally, lines: u64, verdict: Verdict) -> Tally
+pub(crate) fn count(
+    rt: &impl Print,
+    tally: Tally,
+    lines: u64,
+    verdict: Verdict,
+) -> io::Result<Tally>
     requires { Counted lines tally × (lines + 1 < 2 ^ 64) }
-    ensures { Counted (lines + 1) result }
+    ensures { IfOk result (λ after. Counted (lines + 1) after) }
 {
     let mut counted = tally;
     match verdict {
@@ -53,28 +45,26 @@ pub(crate) fn count(tally: Tally, lines: u64, verdict: Verdict) -> Tally
             counted.vectors += 1;
         }
         Verdict::Differs(found) => {
-            write_differences(lines + 1, found);
+            write_differences(rt, lines + 1, found)?;
             counted.vectors += 1;
             counted.mismatches += 1;
         }
         Verdict::Malformed => {
-            write_line_number(lines + 1);
-            write(b" malformed\n");
+            let number = lines + 1;
+            println!(rt; "line {number}: malformed")?;
             counted.malformed += 1;
         }
     }
-    counted
+    Ok(counted)
 }
 
-pub(crate) fn write_summary(tally: Tally) {
-    write_number(tally.vectors);
-    write(b" vectors, ");
-    write_number(tally.mismatches);
-    write(b" mismatches, ");
-    write_number(tally.malformed);
-    write(b" malformed\n");
+pub(crate) fn write_summary(rt: &impl Print, tally: Tally) -> io::Result<()> {
+    let vectors = tally.vectors;
+    let mismatches = tally.mismatches;
+    let malformed = tally.malformed;
+    println!(rt; "{vectors} vectors, {mismatches} mismatches, {malformed} malformed")
 }
 
-pub(crate) fn write_too_long() {
-    write(b"the input is too long\n");
+pub(crate) fn write_too_long(rt: &impl Print) -> io::Result<()> {
+    println!(rt; "the input is too long")
 }

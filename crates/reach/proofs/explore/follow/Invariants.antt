@@ -1,0 +1,13 @@
+use Prim.Native.Nat.{◌+◌, ◌-◌}
+use Rattle.memory.specs.Bus.{bus_on, read_of}
+use Rattle.memory.specs.Near.{Near}
+use Rattle.bitset.specs.Bits.{size_of}
+use Rattle.reach.proofs.FollowLaws.{Following}
+use Rattle.reach.proofs.explore.follow.Given as goal
+
+abbrev pub invariant-loop-writers : goal.invariant-loop-writers
+invariant-loop-writers l =
+    Following (read_of (bus_on l.board l.mem)) l.initial.clear l.initial.set l.below l.clear l.set l.writers l.stack l.depth l.node × Near l.board l.near
+
+abbrev pub decreases-loop-writers : goal.decreases-loop-writers
+decreases-loop-writers l = 131072 - (size_of l.clear + size_of l.set)
