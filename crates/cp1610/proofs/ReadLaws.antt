@@ -22,7 +22,7 @@ use Rattle.pair.specs.Write.{PairWriting, write_pair_of}
 use Rattle.bitset.specs.Bits.{LowestOrNone, none, lowest_at}
 use Rattle.reach.specs.Summary.{SetSummary}
 use Rattle.cp1610.specs.Words.{state_length, is_set, unpacked, lines_of}
-use Rattle.cp1610.specs.MapWords.{range_at, ranges_to, board_of, kinds_to, is_map, on_map, all_ram_words}
+use Rattle.cp1610.specs.MapWords.{range_at, ranges_to, board_of, kinds_to, is_map, on_map}
 use Rattle.cp1610.specs.Answers.{success_word, run_length, run_words}
 use Rattle.cp1610.specs.Called.{items, Called, called, call_by}
 use Rattle.cp1610.specs.Call.{reset_call, step_call, run_call}

@@ -1,5 +1,5 @@
--- What a caller in C reads from the calls: what document 01's definitions answer. Proved in `proofs/answer_laws`, `proofs/read_laws`,
--- `proofs/steps_laws` and `proofs/limit_laws`; `Calls` has what holds of every refused call.
+-- What a caller in C reads from the calls: what document 01's definitions answer. Proved in `proofs/AnswerLaws`, `proofs/ReadLaws`,
+-- `proofs/StepsLaws` and `proofs/LimitLaws`; `Calls` has what holds of every refused call.
 use Rattle.std.specs.Prelude.{ℕ, ◌≤◌, ◌≡◌, true, List, [], ◌∷◌, map as each, length, take, drop, replicate}
 use Rattle.refusal.specs.Report.{UnlessRefused}
 use Rattle.memory.specs.Bus.{Bus, read_of}

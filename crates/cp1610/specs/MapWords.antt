@@ -1,5 +1,5 @@
 -- The C interface page, "The map": how words stand for a board.
-use Rattle.std.specs.Prelude.{ℕ, zero, suc, ◌+◌, ◌*◌, ◌-◌, ◌/◌, ◌%◌, Bool, true, cond, not, ◌&&◌, List, [], ◌∷◌, ◌++◌, eqb, leb, length, get_or, replicate}
+use Rattle.std.specs.Prelude.{ℕ, zero, suc, ◌+◌, ◌*◌, ◌-◌, ◌/◌, ◌%◌, Bool, true, cond, ◌&&◌, List, [], ◌∷◌, ◌++◌, eqb, leb, length, get_or, replicate}
 use Rattle.memory.specs.declared.map.Kind.{Kind}
 use Rattle.memory.specs.declared.map.Kind.TheVariants.{Rom, Ram16, Ram8}
 use Rattle.memory.specs.declared.map.Range.{Range}

@@ -1,6 +1,7 @@
 // The C interface: the functions of libcp1610.a. Each takes the caller's words, calls the proved function and hands its answer
 // back as words. docs/C-INTERFACE.md is the page for callers.
 #![tactic(auto)]
+
 ghost use Rattle.std.specs.Prelude.{◌≡◌, [], ◌∷◌};
 ghost use Rattle.cp1610.specs.MapWords.{on_map};
 ghost use Rattle.cp1610.specs.Called.{items, memory, called};

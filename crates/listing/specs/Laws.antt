@@ -1,5 +1,5 @@
--- What holds of listing and assembling together. Each law is stated here; `proofs/round_trip` proves (a), (c), (d) and (f), `proofs/Itself`
--- (b), `proofs/row_table` (e), and `proofs/Bounds` the last.
+-- What holds of listing and assembling together. Each law is stated here; `proofs/RoundTrip` proves (a), (c), (d) and (f), `proofs/Itself`
+-- (b), `proofs/RowTable` (e), and `proofs/Bounds` the last.
 use Rattle.std.specs.Prelude.{ℕ, ◌<◌, ◌≤◌, ◌≡◌, Bool, true, false, List, length, get_or}
 use Rattle.word.specs.Word.{wrap_add}
 use Rattle.memory.specs.Bus.{Bus, bus_of, read_of}

@@ -1,5 +1,6 @@
 // The texts that the listing program and the metering program print of an image, as functions of the input's bytes.
 #![tactic(auto)]
+
 ghost use Rattle.std.specs.Prelude.{◌≡◌, ◌≤◌, length};
 ghost use Rattle.image.specs.Load.{load_of};
 ghost use Rattle.report.specs.Reading.{board_number, board_words, input_limit, read_room, input_of, reading_after, reading_of};

@@ -1,4 +1,4 @@
--- What joins the definitions in the code's shape to those of document 01. `proofs/Spelling` and `proofs/row_places` prove it.
+-- What joins the definitions in the code's shape to those of document 01. `proofs/Spelling` and `proofs/RowPlaces` prove it.
 use Rattle.std.specs.Prelude.{ℕ, ◌%◌, ◌≡◌, Bool, [], ◌∷◌}
 use Rattle.word.specs.Word.{wrap_add}
 use Rattle.decode.specs.Fields.{opcode_of, jump_bits}

@@ -1,4 +1,4 @@
--- The code's loop: it goes by what each step answers. `proofs/loop_laws` equates it with the run and with one step.
+-- The code's loop: it goes by what each step answers. `proofs/LoopLaws` equates it with the run and with one step.
 use Rattle.std.specs.Prelude.{ℕ, zero, suc, ◌+◌, ◌-◌, cond, List, eqb, ltb}
 use Rattle.memory.specs.declared.map.Board.{Board}
 use Rattle.memory.specs.Bus.{Bus, bus_on}
