@@ -1,8 +1,6 @@
 // The count of cases. The line of a case is its name, perhaps what differs, and `ok` or `FAILED`.
-ghost use Rattle.std.specs.Prelude.{◌≡◌, IfOk};
+ghost use Rattle.std.specs.Prelude.{◌≡◌};
 ghost use Rattle.harness.specs.Tally.{no_cases, counted_of, all_well};
-
-use std::io;
 
 #[derive(Clone, Copy)]
 pub struct Tally {
@@ -35,33 +33,33 @@ pub fn counted(tally: Tally, well: bool) -> Tally
     }
 }
 
-// Prints the end of a case's line, and counts the case. The only error, here and below, is that printing fails.
-pub fn close(rt: &impl Print, tally: Tally, well: bool) -> io::Result<Tally>
-    ensures { IfOk result (λ after. after ≡ counted_of tally well) }
+// Prints the end of a case's line, and counts the case. A write that fails, here and below, is passed over.
+pub fn close(rt: &impl Print, tally: Tally, well: bool) -> Tally
+    ensures { result ≡ counted_of tally well }
 {
     if well {
-        rt.write_all(b"ok\n")?;
+        let _ = rt.write_all(b"ok\n");
     } else {
-        rt.write_all(b"FAILED\n")?;
+        let _ = rt.write_all(b"FAILED\n");
     }
-    Ok(counted(tally, well))
+    counted(tally, well)
 }
 
 // Prints the whole line of a case, and counts the case.
-pub fn judge(rt: &impl Print, tally: Tally, name: &[u8], well: bool) -> io::Result<Tally>
-    ensures { IfOk result (λ after. after ≡ counted_of tally well) }
+pub fn judge(rt: &impl Print, tally: Tally, name: &[u8], well: bool) -> Tally
+    ensures { result ≡ counted_of tally well }
 {
-    rt.write_all(name)?;
-    rt.write_all(b": ")?;
+    let _ = rt.write_all(name);
+    let _ = rt.write_all(b": ");
     close(rt, tally, well)
 }
 
 // Prints the counts, and answers whether no case failed.
-pub fn summary(rt: &impl Print, tally: Tally) -> io::Result<bool>
-    ensures { IfOk result (λ well. well ≡ all_well tally) }
+pub fn summary(rt: &impl Print, tally: Tally) -> bool
+    ensures { result ≡ all_well tally }
 {
     let cases = tally.cases;
     let failed = tally.failed;
-    println!(rt; "{cases} cases, {failed} failed")?;
-    Ok(failed == 0)
+    let _ = println!(rt; "{cases} cases, {failed} failed");
+    failed == 0
 }

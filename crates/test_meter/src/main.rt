@@ -8,7 +8,6 @@ mod waits;
 
 use harness::tally::Tally;
 use harness::{fields, input, tally, text};
-use std::io;
 
 const INPUT_ROOM: usize = 65536;
 
@@ -39,7 +38,7 @@ fn is_well(name: &[u8], before: &[u8], after: &[u8], memory: &mut [u16]) -> bool
 }
 
 // A row that is no remark is the first of a case's three rows, so that no row is passed over.
-fn run_cases(rt: &impl Print, input: &[u8], memory: &mut [u16]) -> io::Result<Tally> {
+fn run_cases(rt: &impl Print, input: &[u8], memory: &mut [u16]) -> Tally {
     let mut tally = tally::empty();
     let mut rest = input;
     while rest.len() > 0 {
@@ -50,21 +49,20 @@ fn run_cases(rt: &impl Print, input: &[u8], memory: &mut [u16]) -> io::Result<Ta
         } else {
             let third = text::after_first_row(second);
             let well = is_well(row, text::first_row(second), text::first_row(third), memory);
-            tally = tally::judge(rt, tally, fields::body(row), well)?;
+            tally = tally::judge(rt, tally, fields::body(row), well);
             rest = text::after_first_row(third);
         }
     }
-    Ok(tally)
+    tally
 }
 
-fn main(rt: HostRuntime) -> io::Result<()> {
+fn main(rt: HostRuntime) {
     let mut input = [0u8; INPUT_ROOM];
     let length = input::read_full(&mut rt.stdin(), &mut input);
     let mut memory = [0u16; MEMORY_ROOM];
-    let tally = run_cases(&rt, &input[..length], &mut memory)?;
+    let tally = run_cases(&rt, &input[..length], &mut memory);
     if length == INPUT_ROOM {
-        rt.write_all(b"the input fills its room, and may be cut\n")?;
+        let _ = rt.write_all(b"the input fills its room, and may be cut\n");
     }
-    tally::summary(&rt, tally)?;
-    Ok(())
+    tally::summary(&rt, tally);
 }

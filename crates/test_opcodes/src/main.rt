@@ -9,17 +9,16 @@ mod tally;
 mod wrong;
 
 use harness::input;
-use std::io;
 
 const INPUT_ROOM: usize = 65536;
 
-fn main(rt: HostRuntime) -> io::Result<()> {
+fn main(rt: HostRuntime) {
     let mut input = [0u8; INPUT_ROOM];
     let length = input::read_full(&mut rt.stdin(), &mut input);
     if length == INPUT_ROOM {
-        rt.write_all(b"the input fills its room, and may be cut\n")?;
+        let _ = rt.write_all(b"the input fills its room, and may be cut\n");
     }
-    outside::run(&rt, &input[..length])?;
-    sweep::run(&rt)?;
-    wrong::run(&rt)
+    outside::run(&rt, &input[..length]);
+    sweep::run(&rt);
+    wrong::run(&rt);
 }

@@ -5,7 +5,6 @@
 use crate::line;
 use crate::tally::{counted, empty, write_tally};
 use harness::text;
-use std::io;
 
 // How a row begins: `d` stands for 0 or 1, `0` for a hexadecimal digit, every other byte for itself.
 const SHAPE: [u8; 25] = *b"d | 0000 0000 0000 | 0 | ";
@@ -27,11 +26,10 @@ fn is_shaped(row: &[u8]) -> bool {
     true
 }
 
-fn write_if(rt: &impl Print, differs: bool, name: &[u8]) -> io::Result<()> {
+fn write_if(rt: &impl Print, differs: bool, name: &[u8]) {
     if differs {
-        rt.write_all(name)?;
+        let _ = rt.write_all(name);
     }
-    Ok(())
 }
 
 // Prints a row that is not as written, with what differs.
@@ -42,22 +40,22 @@ fn judged(
     spelled: bool,
     used: bool,
     back: bool,
-) -> io::Result<bool> {
+) -> bool {
     let well = shaped & spelled & used & back;
     if !well {
-        rt.write_all(row)?;
-        rt.write_all(b":")?;
-        write_if(rt, !shaped, b" malformed")?;
-        write_if(rt, !spelled, b" text")?;
-        write_if(rt, !used, b" words")?;
-        write_if(rt, !back, b" assembled")?;
-        rt.write_all(b"\n")?;
+        let _ = rt.write_all(row);
+        let _ = rt.write_all(b":");
+        write_if(rt, !shaped, b" malformed");
+        write_if(rt, !spelled, b" text");
+        write_if(rt, !used, b" words");
+        write_if(rt, !back, b" assembled");
+        let _ = rt.write_all(b"\n");
     }
-    Ok(well)
+    well
 }
 
 // Lists the words of a row, and assembles its line.
-fn is_as_written(rt: &impl Print, row: &[u8]) -> io::Result<bool> {
+fn is_as_written(rt: &impl Print, row: &[u8]) -> bool {
     let double = text::byte_at(row, 0) == b'1';
     let words = [
         text::hex_word(row, 4),
@@ -78,16 +76,16 @@ fn is_as_written(rt: &impl Print, row: &[u8]) -> io::Result<bool> {
     )
 }
 
-pub(crate) fn run(rt: &impl Print, input: &[u8]) -> io::Result<()> {
+pub(crate) fn run(rt: &impl Print, input: &[u8]) {
     let mut tally = empty();
     let mut rest = input;
     while rest.len() > 0 {
         let row = text::first_row(rest);
         if !text::is_remark(row) {
-            tally = counted(tally, is_as_written(rt, row)?);
+            tally = counted(tally, is_as_written(rt, row));
         }
         let next = text::after_first_row(rest);
         rest = next;
     }
-    write_tally(rt, "lines of another disassembler", "as written", tally)
+    write_tally(rt, "lines of another disassembler", "as written", tally);
 }

@@ -4,7 +4,6 @@ use crate::tally::{more, write_count};
 use harness::text;
 use listing::Assembly;
 use refusal::Refusal;
-use std::io;
 
 #[derive(Clone, Copy)]
 struct Counts {
@@ -80,7 +79,7 @@ fn with_line(counts: Counts, memory: [u16; 3], double: bool) -> Counts {
     }
 }
 
-pub(crate) fn run(rt: &impl Print) -> io::Result<()> {
+pub(crate) fn run(rt: &impl Print) {
     let mut counts = Counts {
         listed: 0,
         one: 0,
@@ -97,11 +96,11 @@ pub(crate) fn run(rt: &impl Print) -> io::Result<()> {
         counts = with_line(counts, memory, k % 2 == 1);
         k += 1;
     }
-    write_count(rt, "lines", counts.listed)?;
-    write_count(rt, "of one word", counts.one)?;
-    write_count(rt, "of two words", counts.two)?;
-    write_count(rt, "of three words", counts.three)?;
-    write_count(rt, "next D set", counts.double)?;
-    write_count(rt, "come back equal", counts.back)?;
-    write_count(rt, "list as themselves", counts.itself)
+    write_count(rt, "lines", counts.listed);
+    write_count(rt, "of one word", counts.one);
+    write_count(rt, "of two words", counts.two);
+    write_count(rt, "of three words", counts.three);
+    write_count(rt, "next D set", counts.double);
+    write_count(rt, "come back equal", counts.back);
+    write_count(rt, "list as themselves", counts.itself);
 }

@@ -1,5 +1,4 @@
 // Counts of what was tried and of what went well.
-use std::io;
 
 #[derive(Clone, Copy)]
 pub(crate) struct Tally {
@@ -27,17 +26,12 @@ pub(crate) fn counted(tally: Tally, well: bool) -> Tally {
     }
 }
 
-pub(crate) fn write_count(rt: &impl Print, name: &str, count: u64) -> io::Result<()> {
-    println!(rt; "{name}: {count}")
+pub(crate) fn write_count(rt: &impl Print, name: &str, count: u64) {
+    let _ = println!(rt; "{name}: {count}");
 }
 
-pub(crate) fn write_tally(
-    rt: &impl Print,
-    name: &str,
-    verdict: &str,
-    tally: Tally,
-) -> io::Result<()> {
+pub(crate) fn write_tally(rt: &impl Print, name: &str, verdict: &str, tally: Tally) {
     let tried = tally.tried;
     let well = tally.well;
-    println!(rt; "{name}: {tried}, {verdict} {well}")
+    let _ = println!(rt; "{name}: {tried}, {verdict} {well}");
 }

@@ -3,19 +3,18 @@
 use crate::answer;
 use crate::answer::Answer;
 use harness::case;
-use std::io;
 
-pub(crate) fn agree_answer(rt: &impl Print, left: Answer, after: &[u8]) -> io::Result<bool> {
+pub(crate) fn agree_answer(rt: &impl Print, left: Answer, after: &[u8]) -> bool {
     if answer::is_told(after, left) {
-        return Ok(true);
+        return true;
     }
-    rt.write_all(b"the answer is ")?;
-    rt.write_all(answer::name_of(&answer::NAMES, left.letter))?;
+    let _ = rt.write_all(b"the answer is ");
+    let _ = rt.write_all(answer::name_of(&answer::NAMES, left.letter));
     let steps = left.steps;
     let cycles = left.cycles;
     let number = left.number;
-    print!(rt; " steps={steps} cycles={cycles} number={number}, ")?;
-    Ok(false)
+    let _ = print!(rt; " steps={steps} cycles={cycles} number={number}, ");
+    false
 }
 
 fn word_of(memory: &[u16], at: usize) -> u16 {
@@ -34,11 +33,11 @@ fn first_difference(memory: &[u16], expected: &[u16]) -> usize {
     at
 }
 
-pub(crate) fn agree_memory(rt: &impl Print, memory: &[u16], expected: &[u16]) -> io::Result<bool> {
+pub(crate) fn agree_memory(rt: &impl Print, memory: &[u16], expected: &[u16]) -> bool {
     let at = first_difference(memory, expected);
     if memory.len() <= at {
-        return Ok(true);
+        return true;
     }
-    print!(rt; "at {at:04x} ")?;
+    let _ = print!(rt; "at {at:04x} ");
     case::agree_word(rt, b"the word", word_of(memory, at), word_of(expected, at))
 }

@@ -19,16 +19,16 @@ returns g c =
     let a = c.args.left in
     let b = c.args.expected in
     Iff.trans
-    (compared a.s b.s c.in_ok-agree.ensures
-    and compared a.z b.z c.in_ok-agree-2.ensures
-    and compared a.o b.o c.in_ok-agree-3.ensures
-    and compared a.c b.c c.in_ok-agree-4.ensures
-    and compared a.i b.i c.in_ok-agree-5.ensures
-    and compared a.d b.d c.in_ok-agree-6.ensures
-    and compared a.halted b.halted c.in_ok-agree-7.ensures
-    and compared a.ready b.ready c.in_ok-agree-8.ensures
-    and compared a.level b.level c.in_ok-agree-9.ensures
-    and compared a.pending b.pending c.in_ok-agree-10.ensures) (
+    (compared a.s b.s c.agree.ensures
+    and compared a.z b.z c.agree-2.ensures
+    and compared a.o b.o c.agree-3.ensures
+    and compared a.c b.c c.agree-4.ensures
+    and compared a.i b.i c.agree-5.ensures
+    and compared a.d b.d c.agree-6.ensures
+    and compared a.halted b.halted c.agree-7.ensures
+    and compared a.ready b.ready c.agree-8.ensures
+    and compared a.level b.level c.agree-9.ensures
+    and compared a.pending b.pending c.agree-10.ensures) (
       λ (((((((((s, z), o), c), i), d), halted), ready), level), pending) k.
           record { s = s k; z = z k; o = o k; c = c k; i = i k; d = d k; halted = halted k; ready = ready k; level = level k; pending = pending k },
       λ q. rw q (((((((((refl, refl), refl), refl), refl), refl), refl), refl), refl), refl),
