@@ -1,4 +1,4 @@
-use Rattle.std.proofs.Common.{length, rules}
+use Rattle.std.proofs.Common.{length}
 use Rattle.test_pair.proofs.run_cases.Given as goal
 
 abbrev pub decreases-loop-rest : goal.decreases-loop-rest

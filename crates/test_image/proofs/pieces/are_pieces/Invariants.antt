@@ -1,4 +1,3 @@
-use mathlib.Core.Path.{◌≡◌}
 use lib.ListN.{length}
 use Rattle.test_image.proofs.pieces.are_pieces.Given as goal
 
