@@ -1,6 +1,6 @@
 -- Document 01, "Listing lines": "The lister takes an address and D, answers text length, words used and next D". The memory is a reader,
 -- from an address to the word there.
-use Rattle.std.specs.Prelude.{ℕ, Bool, false, cond, List, ◌++◌, ltb, length, drop}
+use Rattle.std.specs.Prelude.{ℕ, Bool, false, cond, List, ◌++◌, ltb, length, drop, Result}
 use Rattle.refusal.specs.declared.Refusal.{Refusal}
 use Rattle.refusal.specs.declared.Refusal.TheVariants.{TextRoomTooSmall}
 use Rattle.refusal.specs.Refusals.{refusal_number}
@@ -12,7 +12,7 @@ use Rattle.decode.specs.declared.Decoded.TheVariants.{Unspecified, Known}
 use Rattle.decode.specs.Decode.{decode_at}
 use Rattle.decode.specs.Rows.{row_of}
 use Rattle.text.specs.Text.{codes, hex_of}
-use Rattle.listing.specs.declared.Listing.{Listing}
+use Rattle.listing.specs.declared.Listed.{Listed}
 use Rattle.listing.specs.Answer.{ListedLine, listed_line, listing_reported}
 use Rattle.listing.specs.Line.{line_of, line_operand}
 
@@ -70,5 +70,5 @@ disassemble_of b at double room =
     (listed_disassembly room (entry_at (read_of b) at double)))
 
 -- what the code's answer and the room at its return stand for: the contract says that it is `disassemble_of`
-abbrev pub disassembly : Listing → List ℕ → Disassembly
+abbrev pub disassembly : Result Listed Refusal → List ℕ → Disassembly
 disassembly x room = record { answer = listing_reported x; room = room }

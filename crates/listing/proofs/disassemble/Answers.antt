@@ -16,20 +16,16 @@ pub returns-then-text-lt-TEXT_ROOM : goal.returns-then-text-lt-TEXT_ROOM
 unfolding disassemble_of
 returns-then-text-lt-TEXT_ROOM c = rw (← c.admit-admission.ensures, c.in_default.is, lt-ltb _ _ c.if-text-lt-TEXT_ROOM.true)
 
-pub row_at-row-requires : goal.row_at-row-requires
-row_at-row-requires c = rw c.entry_at-entry.ensures (entry_in _ _ _)
-
-pub write-length-requires : goal.write-length-requires
-write-length-requires c =
-    (c.row_at-row.ensures.0, rw c.entry_at-entry.ensures (entry_in _ _ _), search rules)
+pub write-requires : goal.write-requires
+write-requires c = (rw c.entry_at-entry.ensures (entry_in _ _ _), search rules)
 
 pub returns : goal.returns
 unfolding disassemble_of listed_disassembly
 returns c =
     let a = c.args in
     rw (
-      c.write-length.ensures.0,
-      c.write-length.ensures.1,
+      c.write.ensures.0,
+      c.write.ensures.1,
       c.entry_at-entry.ensures,
       ← c.admit-admission.ensures,
       c.in_default.is,
