@@ -1,5 +1,6 @@
 -- Laws of rows, of their fields, of bytes in digits, of runs of words, and of ranges.
 pub mod TextLaws
+pub mod RowLaws
 pub mod ByteLaws
 pub mod FieldLaws
 pub mod WordLaws
