@@ -1,7 +1,7 @@
 -- Laws of the fields of a row.
 use Rattle.std.proofs.Common.{◌≡◌, ℕ, zero, suc, ◌+◌, ◌-◌, ◌*◌, ◌<◌, ◌≤◌, Bool, true, false, cond, List, [], ◌∷◌, length, get_or, drop, set, refl, ap, add-one, arith, length-drop, drop-cons, drop-drop}
 use Rattle.harness.specs.Text.{quoted, length_before, part_behind, hex_number}
-use Rattle.harness.specs.Fields.{after_first_field, fields_by, fields_of, starts_with_key, first_with_key}
+use Rattle.harness.specs.Fields.{after_first_field, fields_by, fields_of, starts_with_key}
 use Rattle.harness.specs.Forms.{first_fits, all_fit, fits_column, fit_columns, without_first, are_picked}
 use Rattle.harness.specs.Words.{with_first, with_all, is_inside, all_inside, with_list}
 
@@ -41,22 +41,8 @@ unfolding fields_of fields_by
 fields-of-none [] h = refl
 fields-of-none (b ∷ row) h = absurd (omega arith)
 
--- the key is nowhere in an empty row
-pub key-nowhere : (row key : List ℕ) → length row ≤ 0 → first_with_key (fields_of row) key ≡ row
-key-nowhere [] key h = rw (fields-of-none [] h)
-key-nowhere (b ∷ row) key h = absurd (omega arith)
-
 -- what holds of all fields of a row, from the first and from those that follow it
 module _ (row : List ℕ) (h : 0 < length row) where
-  pub key_here : (key : List ℕ) → starts_with_key row key ≡ true → first_with_key (fields_of row) key ≡ row
-  key_here key e = rw (fields-of-more row h, e)
-
-  pub key-later :
-      (key : List ℕ) →
-      starts_with_key row key ≡ false →
-      first_with_key (fields_of (after_first_field row)) key ≡ first_with_key (fields_of row) key
-  key-later key e = rw (fields-of-more row h, e)
-
   pub first-misfits : (form : List ℕ) → first_fits row form ≡ false → all_fit (fields_of row) form ≡ false
   first-misfits form e = rw (fields-of-more row h, e)
 

@@ -1,6 +1,5 @@
 -- What the programs that run cases are promised of their rows and their count.
 pub mod Text
-pub mod Rows
 pub mod Bytes
 pub mod Fields
 pub mod Forms

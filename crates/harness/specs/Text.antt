@@ -5,6 +5,7 @@ use Rattle.std.specs.Option.{unwrap_or}
 use Rattle.std.specs.Str.{bytes_eq}
 use Prim.Native.Char.{code}
 use Prim.Native.String.{String, len, char_at}
+use Rattle.harness.specs.declared.text.Rows.{Rows}
 
 -- n characters of a string from the i-th, as bytes
 abbrev pub quoted_from : ℕ → String → ℕ → List ℕ
@@ -44,6 +45,10 @@ rows_by (suc n) (b ∷ text) = first_row (b ∷ text) ∷ rows_by n (after_first
 -- no text has more rows than bytes
 unfoldable pub rows_of : List ℕ → List (List ℕ)
 rows_of text = rows_by (length text) text
+
+-- those that are still to come
+abbrev pub rows_left : Rows → List (List ℕ)
+rows_left s = rows_of s.rest.now
 
 -- an empty row, or one that starts with `#`
 abbrev pub is_remark : List ℕ → Bool

@@ -1,7 +1,6 @@
 // Text: what stands before and behind a mark, the rows of an input, and the numbers that digits write.
 ghost use Rattle.std.specs.Prelude.{◌≡◌, ◌-◌, ◌<◌, ◌≤◌, length, drop, slice_index};
-ghost use Rattle.harness.specs.Text.{length_before, part_before, part_behind, first_row, after_first_row, rows_of, is_remark};
-ghost use Rattle.harness.specs.Rows.{rows_left};
+ghost use Rattle.harness.specs.Text.{length_before, part_before, part_behind, first_row, after_first_row, rows_of, rows_left, is_remark};
 ghost use Rattle.harness.specs.Text.{starts_with, equal_text, stands_in, all_stand_in, digit_value, hex_number, decimal_number};
 
 const LINE_FEED: u8 = 10;
@@ -62,8 +61,7 @@ impl<'a> Rows<'a> {
 
 impl<'a> Iterator for Rows<'a> {
     ghost use Rattle.std.specs.Iterator.{YieldsFirstRef, item_count};
-    ghost use Rattle.harness.specs.Rows.{rows_left};
-
+    
     type Item = &'a [u8];
 
     ghost next_gives = { YieldsFirstRef rows_left };
