@@ -3,5 +3,4 @@ pub mod TextLaws
 pub mod RowLaws
 pub mod ByteLaws
 pub mod FieldLaws
-pub mod WordLaws
 pub mod RangeLaws

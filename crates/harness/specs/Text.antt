@@ -1,5 +1,5 @@
 -- Text as lists of bytes: what stands before and behind a mark, and the numbers that digits write.
-use Rattle.std.specs.Prelude.{ℕ, zero, suc, ◌+◌, ◌*◌, ◌%◌, Bool, cond, ◌||◌, List, [], ◌∷◌, length, take, drop, ◌==◌, nat_lt, slice_index}
+use Rattle.std.specs.Prelude.{ℕ, zero, suc, ◌+◌, ◌*◌, ◌%◌, Bool, cond, ◌||◌, List, [], ◌∷◌, length, take, drop, ◌==◌, nat_lt, slice_index, count_by}
 use Rattle.std.specs.List.{list_any, list_all, position}
 use Rattle.std.specs.Option.{unwrap_or}
 use Rattle.std.specs.Str.{bytes_eq}
@@ -18,6 +18,10 @@ quoted s = quoted_from (len s) s 0
 -- how many bytes stand before the first mark: all, where there is none
 abbrev pub length_before : ℕ → List ℕ → ℕ
 length_before mark text = unwrap_or (position (λ b. b == mark) text) (length text)
+
+-- how many times the mark stands in a text
+abbrev pub count_of : ℕ → List ℕ → ℕ
+count_of mark text = count_by (λ b. b == mark) text
 
 unfoldable pub part_before : ℕ → List ℕ → List ℕ
 part_before mark text = take (length_before mark text) text

@@ -1,6 +1,6 @@
 // Text: what stands before and behind a mark, the rows of an input, and the numbers that digits write.
 ghost use Rattle.std.specs.Prelude.{◌≡◌, ◌-◌, ◌<◌, ◌≤◌, length, drop, slice_index};
-ghost use Rattle.harness.specs.Text.{length_before, part_before, part_behind, first_row, after_first_row, rows_of, rows_left, is_remark};
+ghost use Rattle.harness.specs.Text.{length_before, count_of, part_before, part_behind, first_row, after_first_row, rows_of, rows_left, is_remark};
 ghost use Rattle.harness.specs.Text.{starts_with, equal_text, stands_in, all_stand_in, digit_value, hex_number, decimal_number};
 
 const LINE_FEED: u8 = 10;
@@ -15,6 +15,13 @@ fn length_before(text: &[u8], mark: u8) -> usize
     text.iter()
         .position(|byte| *byte == mark)
         .unwrap_or(text.len())
+}
+
+// How many times the mark stands in a text.
+pub(crate) fn count(text: &[u8], mark: u8) -> usize
+    ensures { result ≡ count_of mark text.now }
+{
+    text.iter().filter(|byte| **byte == mark).count()
 }
 
 // What stands before the first mark: all, where there is none.
