@@ -1,5 +1,5 @@
 -- Laws of the fields of a row.
-use Rattle.std.proofs.Common.{◌≡◌, ℕ, zero, suc, ◌+◌, ◌-◌, ◌*◌, ◌<◌, ◌≤◌, Bool, true, false, cond, List, [], ◌∷◌, length, get_or, drop, set, refl, ap, add-one, arith, length-drop, drop-cons, drop-drop}
+use Rattle.std.proofs.Common.{◌≡◌, ℕ, zero, suc, ◌+◌, ◌-◌, ◌*◌, ◌<◌, ◌≤◌, Bool, true, false, cond, List, [], ◌∷◌, length, drop, set, refl, ap, arith, length-drop, drop-drop}
 use Rattle.harness.specs.Text.{quoted, length_before, part_behind, hex_number}
 use Rattle.harness.specs.Fields.{after_first_field, fields_by, fields_of, starts_with_key}
 use Rattle.harness.specs.Words.{with_list}

@@ -1,6 +1,5 @@
 -- Laws of what stands before and behind a mark, and from a place on.
-use Rattle.std.proofs.Common.{◌≡◌, ℕ, zero, suc, ◌+◌, ◌-◌, ◌<◌, ◌≤◌, Bool, true, false, ◌&&◌, eqb, List, [], ◌∷◌, length, get_or, take, drop, refl, le_of_suc-le-suc, add-one, arith, length-drop, take_all, drop-cons, eq-eqb, ne_eqb}
-use Rattle.harness.specs.Text.{length_before, starts_with, stands_in, all_stand_in}
+use Rattle.std.proofs.Common.{◌≡◌, ℕ, zero, suc, ◌-◌, ◌≤◌, List, [], ◌∷◌, length, take, drop, refl, le_of_suc-le-suc, arith, length-drop, take_all}
 
 -- a part from a place on is all that stands there
 pub part-rest : (l : List ℕ) (n : ℕ) → take (length l - n) (drop n l) ≡ drop n l

@@ -1,5 +1,5 @@
 -- Rows of named fields: `key=value`, separated by blanks.
-use Rattle.std.specs.Prelude.{ℕ, zero, suc, Bool, cond, ◌&&◌, List, [], ◌∷◌, length, ◌==◌, slice_index, is_some, Option}
+use Rattle.std.specs.Prelude.{ℕ, zero, suc, Bool, cond, ◌&&◌, List, [], ◌∷◌, length, ◌==◌, slice_index, is_some, Option, Some, None}
 use Rattle.std.specs.List.{find}
 use Rattle.std.specs.Option.{unwrap_or}
 use Prim.Native.Char.{code}
@@ -13,6 +13,10 @@ kind_of_row = part_before (code " ")
 -- what follows it and a blank
 abbrev pub body_of_row : List ℕ → List ℕ
 body_of_row = part_behind (code " ")
+
+-- .. if its first word is this one
+abbrev pub body_of_kind : List ℕ → List ℕ → Option (List ℕ)
+body_of_kind row word = cond (equal_text (kind_of_row row) word) (Some (body_of_row row)) None
 
 -- a row starts with a field of this key
 abbrev pub starts_with_key : List ℕ → List ℕ → Bool

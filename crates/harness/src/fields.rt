@@ -9,6 +9,7 @@
 //     kind(row)                     its first word
 //     is_kind(row, word)            whether its first word is this one
 //     body(row)                     what follows its first word and a blank: the name of a case, or the fields
+//     body_of(row, word)            the same, if its first word is this one
 //
 // Of the fields in a body:
 //
@@ -32,7 +33,7 @@
 ghost use Rattle.std.specs.Prelude.{◌≡◌, ◌-◌, ◌≤◌, length};
 ghost use Rattle.std.specs.Option.{option_map};
 ghost use Rattle.harness.specs.Text.{equal_text};
-ghost use Rattle.harness.specs.Fields.{kind_of_row, body_of_row, starts_with_key, first_field, after_first_field, fields_of, fields_left};
+ghost use Rattle.harness.specs.Fields.{kind_of_row, body_of_row, body_of_kind, starts_with_key, first_field, after_first_field, fields_of, fields_left};
 ghost use Rattle.harness.specs.Fields.{find_key, has_key, first_value, value_of_key};
 ghost use Rattle.harness.specs.Fields.{word_of_key, number_of_key, bit_of_key, letter_of_key, is_of_key};
 
@@ -57,6 +58,17 @@ pub fn body(row: &[u8]) -> &[u8]
     ensures { result.now ≡ body_of_row row.now }
 {
     text::behind(row, BLANK)
+}
+
+// What follows the row's first word, if it is this one.
+pub fn body_of<'a>(row: &'a [u8], word: &[u8]) -> Option<&'a [u8]>
+    ensures { option_map (λ body. body.now) result ≡ body_of_kind row.now word.now }
+{
+    if is_kind(row, word) {
+        Some(body(row))
+    } else {
+        None
+    }
 }
 
 pub(crate) fn starts_with_key(row: &[u8], key: &[u8]) -> bool

@@ -1,5 +1,5 @@
 // Text: what stands before and behind a mark, the rows of an input, and the numbers that digits write.
-ghost use Rattle.std.specs.Prelude.{◌≡◌, ◌-◌, ◌<◌, ◌≤◌, length, drop, slice_index};
+ghost use Rattle.std.specs.Prelude.{◌≡◌, ◌-◌, ◌<◌, ◌≤◌, [], length, drop, slice_index, slice_index_or};
 ghost use Rattle.harness.specs.Text.{length_before, count_of, part_before, part_behind, first_row, after_first_row, rows_of, rows_left, is_remark};
 ghost use Rattle.harness.specs.Text.{starts_with, equal_text, stands_in, all_stand_in, digit_value, hex_number, decimal_number};
 
@@ -64,11 +64,19 @@ impl<'a> Rows<'a> {
     {
         Rows { rest: input }
     }
+
+    // The next row, or an empty one where the input has ended.
+    pub(crate) fn next_or_empty(&mut self) -> &'a [u8]
+        ensures first { result.now ≡ slice_index_or (rows_left self.old) 0 [] }
+        ensures others { rows_left self.new ≡ drop 1 (rows_left self.old) }
+    {
+        self.next().unwrap_or_default()
+    }
 }
 
 impl<'a> Iterator for Rows<'a> {
     ghost use Rattle.std.specs.Iterator.{YieldsFirstRef, item_count};
-    
+
     type Item = &'a [u8];
 
     ghost next_gives = { YieldsFirstRef rows_left };

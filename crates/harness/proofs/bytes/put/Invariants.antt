@@ -1,4 +1,4 @@
-use Rattle.std.proofs.Common.{◌≡◌, ◌*◌, length, drop}
+use Rattle.std.proofs.Common.{◌≡◌, ◌*◌, drop}
 use Rattle.harness.specs.Bytes.{pair_bytes, with_bytes}
 use Rattle.harness.proofs.bytes.put.Given as goal
 

@@ -1,5 +1,5 @@
 -- `length_before`: the place of the first mark, or the length.
-use Rattle.std.proofs.Common.{◌≡◌, ◌≤◌, ◌==◌, length, ap, sym, ◌∙◌, rules, tests, arith}
+use Rattle.std.proofs.Common.{◌==◌, length, ap, ◌∙◌, rules, tests, arith}
 use Rattle.std.specs.Option.{unwrap_or}
 use Rattle.std.proofs.lemmas.Grind.{common_steps}
 use Rattle.std.proofs.lemmas.Iterator.{YieldsList-from_slice}

@@ -1,5 +1,5 @@
 -- `next`: a text that is not empty has a first row, and the rows behind it.
-use Rattle.std.proofs.Common.{◌≡◌, ◌<◌, ◌≤◌, ◌∷◌, length, ap, arith, sym, ◌∙◌}
+use Rattle.std.proofs.Common.{◌≡◌, ◌∷◌, length, ap, arith}
 use Rattle.std.proofs.lemmas.Bool.Decides.{nat_tests}
 use Rattle.harness.specs.Text.{rows_of, rows_left}
 use Rattle.harness.proofs.RowLaws.{rows-of-more, rows-of-none}
