@@ -11,7 +11,6 @@ ghost use Rattle.cpu.specs.Answer.{step_report, cycles_of, meets_unspecified};
 ghost use Rattle.cpu.specs.Step.{decoded_action, decoded, admitted_action, made, step_of, admitted_step, outcome, outcome_near, near_after};
 ghost use Rattle.cpu.specs.Inner.Parts.{machine_in, is_unspecified_form, stepped_of};
 
-use decode::Decoded;
 use memory::map::{Board, Range};
 use memory::{Admission, near};
 use refusal::Refusal;
@@ -162,8 +161,7 @@ fn instruction(
     let near = fetched.near;
     let first = fetched.word;
     let read = decode::instruction(first % 1024);
-    let decoded = decode::specified_at(board, near, mem, pc, read, status.d);
-    let Decoded::Known(instr) = decoded else {
+    let Some(instr) = decode::specified_at(board, near, mem, pc, read, status.d) else {
         return finished(registers, before, Err(Refusal::Unspecified), near);
     };
     let seen = registers::put_next(registers, word::wrapping_add(pc, 1));
@@ -231,11 +229,7 @@ pub fn cycles(answer: Result<Done, Refusal>) -> u64
 fn is_unspecified_at(board: Board, near: Range, mem: &[u16], at: u16, double: bool) -> bool
     ensures { result ≡ is_unspecified_form (decode_at (read_of (bus_on (in_front near board) mem.now)) at double) }
 {
-    let decoded = decode::decode_at(board, near, mem, at, double);
-    match decoded {
-        Decoded::Unspecified => true,
-        Decoded::Known(_) => false,
-    }
+    decode::decode_at(board, near, mem, at, double).is_none()
 }
 
 // Whether a step from here would be refused for an unspecified form. Nothing is changed: a run looks so at the step that it does
