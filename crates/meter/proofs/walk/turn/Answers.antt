@@ -9,8 +9,8 @@ use Rattle.meter.proofs.walk.turn.Goals as goal
 use Rattle.meter.proofs.walk.turn.Goals.{After-row_of-row}
 
 -- once the row is known, the turn is the row's
-by_row : (c : After-row_of-row) → decoded_turn c.args.limit c.args.place c.args.decoded ≡ row_turn c.args.limit c.args.place c.row_of-row.result
-by_row c = turn-row c.args.limit c.args.place c.in-Known.is c.row_of-row.ensures
+by_row : (c : After-row_of-row) → decoded_turn c.args.limit.cycles c.args.place c.args.decoded ≡ row_turn c.args.limit.cycles c.args.place c.row_of-row.result
+by_row c = turn-row c.args.limit.cycles c.args.place c.in-Known.is c.row_of-row.ensures
 
 -- and its cycles are few
 few : (c : After-row_of-row) → c.row_of-row.result.cycles ≤ 12

@@ -2,10 +2,10 @@ use Prim.Native.Nat.{◌-◌}
 use Rattle.memory.specs.Bus.{bus_on, read_of}
 use Rattle.memory.specs.Near.{in_front}
 use Rattle.meter.proofs.Loops.{Walking}
-use Rattle.meter.proofs.wait.Given as goal
+use Rattle.meter.proofs.walk.walk_from.Given as goal
 
 abbrev pub invariant-loop-walked : goal.invariant-loop-walked
-invariant-loop-walked l = Walking (read_of (bus_on (in_front l.at_hand l.board) l.mem)) l.walk_limit l.address l.place
+invariant-loop-walked l = Walking (read_of (bus_on (in_front l.at_hand l.board) l.mem)) l.limit.cycles l.start l.place
 
 abbrev pub decreases-loop-walked : goal.decreases-loop-walked
-decreases-loop-walked l = l.walk_limit - l.place.sum
+decreases-loop-walked l = l.limit.cycles - l.place.sum
