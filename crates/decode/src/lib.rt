@@ -43,12 +43,6 @@ pub enum Instr {
     Read(u8, u16, u16),
 }
 
-#[derive(Clone, Copy)]
-pub enum Decoded {
-    Unspecified,
-    Known(Instr),
-}
-
 // Opcodes 000 to 007.
 fn control_instruction(d: u16) -> Instr
     ensures { result ≡ control_instruction d }
@@ -168,19 +162,15 @@ pub fn specified_at(
     at: u16,
     instr: Instr,
     double: bool,
-) -> Decoded
+) -> Option<Instr>
     ensures { result ≡ specified (read_of (bus_on (in_front near board) mem.now)) at instr double }
 {
     let unspecified = is_unspecified_at(board, near, mem, at, instr, double);
-    if unspecified {
-        Decoded::Unspecified
-    } else {
-        Decoded::Known(instr)
-    }
+    if unspecified { None } else { Some(instr) }
 }
 
 // The instruction at an address.
-pub fn decode_at(board: Board, near: Range, mem: &[u16], at: u16, double: bool) -> Decoded
+pub fn decode_at(board: Board, near: Range, mem: &[u16], at: u16, double: bool) -> Option<Instr>
     ensures { Decodes (read_of (bus_on (in_front near board) mem.now)) at double result }
 {
     let instr = instruction(memory::read(board, near, mem, at) % 1024);
@@ -188,13 +178,13 @@ pub fn decode_at(board: Board, near: Range, mem: &[u16], at: u16, double: bool) 
 }
 
 // The instruction of two words with D clear: then only a jump can be unspecified.
-pub fn decode_words(first: u16, second: u16) -> Decoded
+pub fn decode_words(first: u16, second: u16) -> Option<Instr>
     ensures { result ≡ decode_words first second }
 {
     let w = first % 1024;
     if (w == 0x004) & (second % 4 == 3) {
-        Decoded::Unspecified
+        None
     } else {
-        Decoded::Known(instruction(w))
+        Some(instruction(w))
     }
 }
