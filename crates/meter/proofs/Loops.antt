@@ -1,4 +1,6 @@
 -- The invariants of the meter's loops, and what a turn of each keeps. Each is a record, so that a proof names none of its arguments.
+use Rattle.std.specs.Prelude.{Option, Ok}
+use Rattle.decode.specs.declared.Instr.{Instr}
 use Prim.Native.Nat.{ℕ, suc, ◌+◌, ◌-◌, ◌*◌, ◌/◌, ◌<◌, ◌≤◌, max, min}
 use mathlib.Core.Path.{◌≡◌, refl, ap, sym, ◌∙◌}
 use mathlib.Core.Bool.{Bool, true, false}
@@ -7,15 +9,12 @@ use native.Mathlib.Numerals.{add-one}
 use native.Mathlib.Omega.{arith}
 use lib.ListN.{get_or}
 use Rattle.refusal.specs.Report.{answered}
-use Rattle.memory.specs.declared.Admission.TheVariants.{Admitted}
 use Rattle.memory.specs.declared.map.Range.{Range}
 use Rattle.memory.specs.declared.map.Board.{Board}
 use Rattle.memory.specs.Bus.{Bus, bus_on, read_of, admission_of}
 use Rattle.memory.specs.Near.{in_front, no_range, near_of}
 use Rattle.memory.proofs.NearLaws.{near-laws}
 use Rattle.bitset.specs.Bits.{contains}
-use Rattle.decode.specs.declared.Instr.{Instr}
-use Rattle.decode.specs.declared.Decoded.{Decoded}
 use Rattle.decode.specs.Fields.{opcode_of}
 use Rattle.decode.specs.Decode.{instruction_of, specified}
 use Rattle.decode.proofs.DecodeLaws.{decodes-in-steps}
@@ -44,7 +43,7 @@ unfolding walk_from start_at
 walking e = rw e (record { same = refl; low = omega arith })
 
 -- the loops decode in steps, the opcode's instruction and then its form: a turn of what is decoded so is the walk's
-pub decoded-turn : {read : ℕ → ℕ} {limit start v : ℕ} {p : Place} {i : Instr} {x : Decoded} → Walking read limit start p → v ≡ read p.address → i ≡ instruction_of (opcode_of v) → x ≡ specified read p.address i p.double → decoded_turn limit p x ≡ turn_at read limit p
+pub decoded-turn : {read : ℕ → ℕ} {limit start v : ℕ} {p : Place} {i : Instr} {x : Option Instr} → Walking read limit start p → v ≡ read p.address → i ≡ instruction_of (opcode_of v) → x ≡ specified read p.address i p.double → decoded_turn limit p x ≡ turn_at read limit p
 unfolding turn_at
 decoded-turn {read} {limit} {p = p} k e f g = rw (g, f, e) (ap (decoded_turn limit p) (decodes-in-steps.steps read p.address p.double))
 
@@ -74,7 +73,7 @@ module _ {read : ℕ → ℕ} {limit start : ℕ} {p : Place} {t : ControlFlow W
       sym (walk-equation read limit p ∙ ap (after_turn (λ a. a) (walk_on read limit)) h) ∙ k.same
 
 -- the end of the walk of the meter for an address
-pub wait-end : {x : Answer} {l : ℕ} (b : Bus) (a limit : ℕ) → x ≡ walk_from (read_of b) l a → l ≡ limit_of limit → admission_of b ≡ Admitted → limit ≤ 4096 → answered x ≡ wait_of b a limit
+pub wait-end : {x : Answer} {l : ℕ} (b : Bus) (a limit : ℕ) → x ≡ walk_from (read_of b) l a → l ≡ limit_of limit → admission_of b ≡ Ok (tt {0}) → limit ≤ 4096 → answered x ≡ wait_of b a limit
 wait-end b a limit e r p q = ap answered (e ∙ ap (λ (n : ℕ). walk_from (read_of b) n a) r) ∙ sym (wait-answers b a limit p q)
 
 -- the scan of a stretch, at an address of it: what its starts before that add

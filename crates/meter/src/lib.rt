@@ -1,8 +1,7 @@
 // The wait meter: after how many cycles a request is heard, from an address and over a region, found by a walk over the code.
 #![tactic(auto)]
 
-ghost use Rattle.std.specs.Prelude.{◌≡◌, ◌≤◌, MatchResult};
-ghost use Rattle.memory.specs.declared.Admission.TheVariants.{Admitted, Barred};
+ghost use Rattle.std.specs.Prelude.{◌≡◌, ◌≤◌, MatchResult, Ok, Err};
 ghost use Rattle.memory.specs.Bus.{bus_on};
 ghost use Rattle.meter.specs.Answer.{wait_report, region_report};
 ghost use Rattle.meter.specs.Walk.{limit_of};
@@ -11,7 +10,7 @@ ghost use Rattle.meter.specs.Meter.{wait_of, scan_admission, region_of, region_r
 use crate::scan::Region;
 use crate::walk::Limit;
 use memory::map::Board;
-use memory::{Admission, near};
+use memory::near;
 use refusal::Refusal;
 
 mod scan;
@@ -48,10 +47,7 @@ pub struct Findings {
 pub fn wait(board: Board, mem: &[u16], address: u16, limit: u16) -> Result<Walked, Refusal>
     ensures { wait_report result ≡ wait_of (bus_on board mem.now) address limit }
 {
-    let admission = memory::admit(board, mem);
-    if let Admission::Barred(refusal) = admission {
-        return Err(refusal);
-    }
+    memory::admit(board, mem)?;
     let limit = Limit::given(limit)?;
     let at_hand = near::near_to(board, near::no_range(), address);
     Ok(walk::walk_from(board, at_hand, mem, address, limit))
@@ -66,14 +62,11 @@ fn admit_scan(
     limit: u16,
 ) -> Result<Region, Refusal>
     ensures { MatchResult result
-        (λ region. (scan_admission (bus_on board mem.now) first last limit ≡ Admitted)
+        (λ region. (scan_admission (bus_on board mem.now) first last limit ≡ Ok tt)
         × (region.first ≡ first) × (region.last ≡ last) × (region.limit.cycles ≡ limit_of limit))
-        (λ refusal. scan_admission (bus_on board mem.now) first last limit ≡ Barred refusal) }
+        (λ refusal. scan_admission (bus_on board mem.now) first last limit ≡ Err refusal) }
 {
-    let admission = memory::admit(board, mem);
-    if let Admission::Barred(refusal) = admission {
-        return Err(refusal);
-    }
+    memory::admit(board, mem)?;
     if last < first {
         return Err(Refusal::FirstAboveLast);
     }

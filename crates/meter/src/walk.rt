@@ -7,7 +7,7 @@ ghost use Rattle.meter.specs.Answer.{answer_of};
 ghost use Rattle.meter.specs.Walk.{highest_limit, start_at, limit_of, turned, decoded_turn, walk_from};
 
 use crate::Walked;
-use decode::{Decoded, rows};
+use decode::{Instr, rows};
 use memory::map::{Board, Range};
 use refusal::Refusal;
 use std::ops::ControlFlow;
@@ -61,11 +61,11 @@ fn start_at(address: u16) -> Place
 }
 
 // One instruction of the walk, once it is decoded: the walk's answer, or the place after it.
-fn turn(decoded: Decoded, limit: Limit, place: Place) -> ControlFlow<Walked, Place>
+fn turn(decoded: Option<Instr>, limit: Limit, place: Place) -> ControlFlow<Walked, Place>
     requires { place.sum ≤ limit.cycles }
     ensures { turned result ≡ decoded_turn limit.cycles place decoded }
 {
-    let Decoded::Known(instr) = decoded else {
+    let Some(instr) = decoded else {
         return ControlFlow::Break(Walked::Unspecified {
             address: place.address,
         });
@@ -100,13 +100,12 @@ pub(crate) fn walk_from(
     ensures { answer_of result ≡ walk_from (read_of (bus_on (in_front at_hand board) mem.now)) limit.cycles start }
 {
     let mut place = start_at(start);
-    loop {
+    'walk: loop {
         let at = place.address;
         let instr = decode::instruction(memory::read(board, at_hand, mem, at) % 1024);
         let decoded = decode::specified_at(board, at_hand, mem, at, instr, place.double);
-        let next = turn(decoded, limit, place);
-        match next {
-            ControlFlow::Break(walked) => return walked,
+        match turn(decoded, limit, place) {
+            ControlFlow::Break(walked) => break 'walk walked,
             ControlFlow::Continue(after) => place = after,
         }
     }

@@ -2,24 +2,24 @@
 use mathlib.Core.Path.{◌∙◌}
 use Rattle.meter.proofs.Loops.{walking, decoded-turn, Turns, walking_on, walking-less, walking-ends}
 use Rattle.meter.proofs.walk.walk_from.Goals as goal
-use Rattle.meter.proofs.walk.walk_from.Goals.{After-turn-next}
+use Rattle.meter.proofs.walk.walk_from.Goals.{After-turn}
 
-pub loop-walked-init : goal.loop-walked-init
-loop-walked-init c = walking c.start_at-place.ensures
+pub walk-init : goal.walk-init
+walk-init c = walking c.start_at-place.ensures
 
-pub turn-next-requires : goal.turn-next-requires
-turn-next-requires c = c.loop-walked.invariant.low
+pub turn-requires : goal.turn-requires
+turn-requires c = c.walk.invariant.low
 
 -- the turn is of what the loop decodes
-turns : (t : After-turn-next) → Turns t.loop-walked.invariant t.turn-next.result
+turns : (t : After-turn) → Turns t.walk.invariant t.turn.result
 turns t =
-    t.turn-next.ensures ∙ decoded-turn t.loop-walked.invariant t.read.ensures t.instruction-instr.ensures t.specified_at-decoded.ensures
+    t.turn.ensures ∙ decoded-turn t.walk.invariant t.read.ensures t.instruction-instr.ensures t.specified_at-decoded.ensures
 
-pub returns-in-Break : goal.returns-in-Break
-returns-in-Break c = walking-ends c.loop-walked.invariant (turns (goal.at.returns-in-Break c).After-turn-next) c.in-Break.is
+pub returns : goal.returns
+returns c = walking-ends c.walk.invariant (turns (goal.at.returns c).After-turn) c.in-Break.is
 
-pub loop-walked-smaller : goal.loop-walked-smaller
-loop-walked-smaller c = walking-less c.loop-walked.invariant (turns (goal.at.loop-walked-smaller c).After-turn-next) c.in-Continue.is
+pub walk-smaller : goal.walk-smaller
+walk-smaller c = walking-less c.walk.invariant (turns (goal.at.walk-smaller c).After-turn) c.in-Continue.is
 
-pub loop-walked-preserved : goal.loop-walked-preserved
-loop-walked-preserved c = walking_on c.loop-walked.invariant (turns (goal.at.loop-walked-preserved c).After-turn-next) c.in-Continue.is
+pub walk-preserved : goal.walk-preserved
+walk-preserved c = walking_on c.walk.invariant (turns (goal.at.walk-preserved c).After-turn) c.in-Continue.is

@@ -4,8 +4,8 @@ use Rattle.memory.specs.Near.{in_front}
 use Rattle.meter.proofs.Loops.{Walking}
 use Rattle.meter.proofs.walk.walk_from.Given as goal
 
-abbrev pub invariant-loop-walked : goal.invariant-loop-walked
-invariant-loop-walked l = Walking (read_of (bus_on (in_front l.at_hand l.board) l.mem)) l.limit.cycles l.start l.place
+abbrev pub invariant-walk : goal.invariant-walk
+invariant-walk l = Walking (read_of (bus_on (in_front l.at_hand l.board) l.mem)) l.limit.cycles l.start l.place
 
-abbrev pub decreases-loop-walked : goal.decreases-loop-walked
-decreases-loop-walked l = l.limit.cycles - l.place.sum
+abbrev pub decreases-walk : goal.decreases-walk
+decreases-walk l = l.limit.cycles - l.place.sum
