@@ -6,8 +6,9 @@ use mathlib.Core.List.{List, [], ◌∷◌}
 use native.Mathlib.Omega.{arith}
 use lib.Dec.{lit≤}
 use lib.ListN.{length}
+use Rattle.std.proofs.Common.{Option, None, Some}
 use Rattle.refusal.specs.declared.Refusal.{Refusal}
-use Rattle.refusal.specs.declared.Refusal.TheVariants.{Halted, Unspecified as UnspecifiedForm}
+use Rattle.refusal.specs.declared.Refusal.TheVariants.{Halted, Unspecified}
 use Rattle.refusal.specs.Report.{Report, refused, answered, UnlessRefused}
 use Rattle.refusal.proofs.ReportLaws.{no_answer}
 use Rattle.word.proofs.Choice.{cond-true, cond-false, cond_both}
@@ -21,8 +22,6 @@ use Rattle.memory.proofs.BusLaws.{bus-laws, stored-admission, unless-both, unles
 use Rattle.memory.proofs.MapLaws.{map-laws}
 use Rattle.decode.specs.declared.Instr.{Instr}
 use Rattle.decode.specs.declared.Instr.TheVariants.{Hlt, Control, Jump, Single, Gswd, Nop, Sin, Shift, Register, Branch, Store as StoreRow, Read}
-use Rattle.decode.specs.declared.Decoded.{Decoded}
-use Rattle.decode.specs.declared.Decoded.TheVariants.{Unspecified, Known}
 use Rattle.decode.specs.declared.rows.Row.{Row}
 use Rattle.decode.specs.Rows.{branch_cycles, row_of}
 use Rattle.decode.proofs.RowLaws.{row-bounds}
@@ -47,9 +46,9 @@ pub by-admitted : (P : Action → Type 0) (m : Machine) (b : Bus) (l : Lines) �
 unfolding admitted_action
 by-admitted P m b l refusal grant interrupt execute = plans (plan_of (noted m l) l)
   where
-    decodes : (x : Decoded) → P (decoded_action x m (noted m l) b l)
-    decodes Unspecified = refusal UnspecifiedForm
-    decodes (Known i) = execute i
+    decodes : (x : Option Instr) → P (decoded_action x m (noted m l) b l)
+    decodes None = refusal Unspecified
+    decodes (Some i) = execute i
 
     plans : (p : Plan) → P (planned p m (noted m l) b l)
     plans Halting = refusal Halted
@@ -84,7 +83,7 @@ step-by-plan m b l p h e = step-admitted m b l h ∙ ap (λ (q : Plan). made b (
 pub step-executes : (m : Machine) (b : Bus) (l : Lines) (i : Instr) → Executes m b l i → step_of m b l ≡ made b (executed (noted m l) b l i)
 unfolding noted
 step-executes m b l i h =
-    step-by-plan m b l Executing h.admitted h.plan ∙ ap (λ (x : Decoded). made b (decoded_action x m (noted m l) b l)) h.instruction
+    step-by-plan m b l Executing h.admitted h.plan ∙ ap (λ (x : Option Instr). made b (decoded_action x m (noted m l) b l)) h.instruction
 
 pub step-halted : (m : Machine) (b : Bus) (l : Lines) → admission_of b ≡ Admitted → m.running.halted ≡ true → step_of m b l ≡ made b (refused_step m Halted)
 unfolding plan_of noted
@@ -252,10 +251,10 @@ uncharged-keeps-all m b l z = go (step_of m b l).answer refl (step-charged m b l
 abbrev pub Costly : Report StepDone → Type 0
 Costly a = meets_unspecified a ≡ false → 1 ≤ cycles_of a
 
-decoded-costly : (x : Decoded) (given m : Machine) (b : Bus) (l : Lines) → Costly (decoded_action x given m b l).answer
+decoded-costly : (x : Option Instr) (given m : Machine) (b : Bus) (l : Lines) → Costly (decoded_action x given m b l).answer
 unfolding refused_step executed_from executed
-decoded-costly Unspecified given m b l e = absurd (true≢false e)
-decoded-costly (Known i) given m b l e = let c = cycles-bounded i m.switches.d l.external m in omega (arith, c.0)
+decoded-costly None given m b l e = absurd (true≢false e)
+decoded-costly (Some i) given m b l e = let c = cycles-bounded i m.switches.d l.external m in omega (arith, c.0)
 
 pub step-charges : (m : Machine) (b : Bus) (l : Lines) → admission_of b ≡ Admitted → m.running.halted ≡ false → Costly (step_of m b l).answer
 unfolding plan_of noted granted interrupted

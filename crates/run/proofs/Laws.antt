@@ -3,6 +3,7 @@ use Prim.Native.Nat.{ℕ, zero, suc, ◌+◌, ◌≤◌, ◌<◌}
 use mathlib.Core.Path.{◌≡◌, refl, ap, ap₂, sym, subst, ◌∙◌}
 use mathlib.Core.Bool.{Bool, true, false, true≢false, false≢true}
 use native.Mathlib.Omega.{arith}
+use Rattle.std.proofs.Common.{Ok, Err}
 use Rattle.refusal.specs.Report.{Report, refused, answered, is_refused, UnlessRefused}
 use Rattle.refusal.proofs.ReportLaws.{no_answer, same_answer, same-refusal}
 use Rattle.memory.specs.declared.Admission.TheVariants.{Admitted}
@@ -14,8 +15,8 @@ use Rattle.cpu.specs.Step.{Outcome, step_of, admitted_step}
 use Rattle.cpu.specs.Steps.{steps_from, last_machine, last_bus, cycles_of_all, Unrefused}
 use Rattle.cpu.proofs.ActionLaws.{step-admitted, step-charged, cycles-most}
 use Rattle.run.specs.declared.Cause.{Cause}
+use Rattle.run.specs.declared.Ended.{Ended}
 use Rattle.run.specs.declared.Cause.TheVariants.{Halted, Unspecified, Budget}
-use Rattle.run.specs.declared.RunAnswer.TheVariants.{Refused, Ended}
 use Rattle.run.specs.Run.{cause_number, RunDone, RunsApart, RunOutcome, refused_run, cause_of, finish, run_from, run_on}
 use Rattle.run.specs.Laws.{repeated, Made, SumFixesSteps, MakesItsSteps, CyclesBelow, CauseSays, CauseIsRight, BudgetIsSpent, NoBudgetNoChange}
 use Rattle.run.proofs.RunLaws.{answered-charged, ends-halted, ends-unspecified, ends-budget, Rests, budget_spent, machine_halted, form_unspecified, rests, by-turns, by-run}
@@ -169,12 +170,11 @@ same-cause Budget Unspecified e = absurd (omega arith)
 same-cause Budget Budget e = refl
 
 pub runs-apart : RunsApart
-runs-apart (Refused a) (Refused b) e = ap Refused (same-refusal a b e)
-runs-apart (Refused a) (Ended s c k) e = no_answer e
-runs-apart (Ended s c k) (Refused b) e = no_answer (sym e)
-runs-apart (Ended s c k) (Ended s' c' k') e =
-    let x = same_answer e in
-    let p = ap (λ (y : RunDone). y.steps) x in
-    let q = ap (λ (y : RunDone). y.cycles) x in
-    let n = same-cause k k' (ap (λ (y : RunDone). y.cause) x) in
-    cc
+runs-apart (Err a) (Err b) e = ap Err (same-refusal a b e)
+runs-apart (Err a) (Ok x) e = no_answer e
+runs-apart (Ok x) (Err b) e = no_answer (sym e)
+runs-apart (Ok x) (Ok y) e =
+    let d = same_answer e in
+    let ended : ℕ → ℕ → Cause → Ended = λ s c k. record { steps = s; cycles = c; cause = k } in
+    let spent = ap₂ ended (ap (λ (z : RunDone). z.steps) d) (ap (λ (z : RunDone). z.cycles) d) in
+    ap₂ (λ (of : Cause → Ended) (k : Cause). Ok (of k)) spent (same-cause x.cause y.cause (ap (λ (z : RunDone). z.cause) d))

@@ -7,6 +7,8 @@ use native.Mathlib.Omega.{arith}
 use lib.Dec.{eqb, ltb}
 use lib.ListN.{length}
 use borrow.Author.Tests.{eqb-false, ltb-true, ltb-false, le-ltb, lt-ltb, eq-eqb, ne_eqb}
+use Rattle.std.proofs.Common.{Result, Ok, Err}
+use Rattle.refusal.specs.declared.Refusal.{Refusal}
 use Rattle.refusal.specs.Report.{Report, refused, answered, is_refused}
 use Rattle.word.proofs.Choice.{cond-true, cond-false, cond_both}
 use Rattle.memory.specs.declared.Admission.TheVariants.{Admitted}
@@ -14,6 +16,7 @@ use Rattle.memory.specs.declared.map.Board.{Board}
 use Rattle.memory.specs.Bus.{Bus, bus_on, admission_of}
 use Rattle.memory.specs.Near.{in_front, Near}
 use Rattle.cpu.specs.declared.Lines.{Lines}
+use Rattle.cpu.specs.declared.Done.{Done}
 use Rattle.cpu.specs.declared.NearStep.{NearStep}
 use Rattle.cpu.specs.Machine.{Machine, machine_of}
 use Rattle.cpu.specs.Answer.{StepDone, step_report, cycles_of, meets_unspecified}
@@ -124,11 +127,6 @@ loop-is-step m b l s =
     cond_both (λ (e : LoopEnd). e.left ≡ admitted_step m b l) (eqb (cycles_of (admitted_step m b l).answer) 0) refl refl
     ∙ sym (step-admitted m b l s)
 
--- a refused step costs nothing
-refused-free : (a : Report StepDone) → is_refused a ≡ true → cycles_of a ≡ 0
-refused-free (refused n) e = refl
-refused-free (answered x) e = absurd (false≢true e)
-
 -- the code's loop: the rest of it is the whole, no step was free, the last one went past the budget by less than its own cycles, the range is at hand,
 -- and the memory has this length
 pub record Looping (l : Lines) (budget : ℕ) (b : Board) (start : Outcome) (len : ℕ) (x : NearStep) (m : List ℕ) (steps cycles : ℕ) : Type 0 where
@@ -147,29 +145,29 @@ module _ {l : Lines} {budget : ℕ} {b : Board} {start : Outcome} {len : ℕ} {x
     left : outcome_near b y n ≡ next l (outcome_near b x m)
     left = e ∙ near_step b x.near y.near (machine_of x.state) l k.at_hand near m
 
-    pub ends-refused : is_refused (step_report y.answer) ≡ true → stop steps cycles (outcome_near b y n) ≡ loop_on l budget 0 0 start
+    pub ends-refused : {why : Refusal} → y.answer ≡ Err why → stop steps cycles (outcome_near b y n) ≡ loop_on l budget 0 0 start
     ends-refused r =
         ap (stop steps cycles) left
-        ∙ sym (loop-refused l budget steps cycles (outcome_near b x m) room (ap (λ (o : Outcome). cycles_of o.answer) (sym left) ∙ refused-free (step_report y.answer) r))
+        ∙ sym (loop-refused l budget steps cycles (outcome_near b x m) room (ap (λ (o : Outcome). cycles_of o.answer) (sym left) ∙ ap (λ (a : Result Done Refusal). cycles_of (step_report a)) r))
         ∙ k.same
 
-    -- it was not refused, and cost this
-    module _ {spent : ℕ} (p : spent ≡ cycles_of (step_report y.answer)) (r : is_refused (step_report y.answer) ≡ false) where
-      costs : cost l (outcome_near b x m) ≡ spent
-      costs = ap (λ (o : Outcome). cycles_of o.answer) (sym left) ∙ sym p
+    -- it was not refused, and did this
+    module _ {d : Done} (r : y.answer ≡ Ok d) where
+      costs : cost l (outcome_near b x m) ≡ d.cycles
+      costs = ap (λ (o : Outcome). cycles_of o.answer) (sym left) ∙ ap (λ (a : Result Done Refusal). cycles_of (step_report a)) r
 
-      pub costs-few : spent ≤ 12
+      pub costs-few : d.cycles ≤ 12
       costs-few = omega (arith, costs, admitted-most (machine_of x.state) (bus_on b m) l)
 
-      pub costs-some : 1 ≤ spent
+      pub costs-some : 1 ≤ d.cycles
       costs-some =
           omega (
             arith,
             costs,
-            answered-charged (next l (outcome_near b x m)).answer (admitted-charged (machine_of x.state) (bus_on b m) l) (ap (λ (o : Outcome). is_refused o.answer) (sym left) ∙ r),
+            answered-charged (next l (outcome_near b x m)).answer (admitted-charged (machine_of x.state) (bus_on b m) l) (ap (λ (o : Outcome). is_refused o.answer) (sym left) ∙ ap (λ (a : Result Done Refusal). is_refused (step_report a)) r),
           )
 
-      pub goes-round : length n ≡ length m → Looping l budget b start len y n (steps + 1) (cycles + spent)
+      pub goes-round : length n ≡ length m → Looping l budget b start len y n (steps + 1) (cycles + d.cycles)
       goes-round h =
           record {
             same =

@@ -22,16 +22,16 @@ returns-then-budget-gt-BUDGET_LIMIT c =
     rw (c.refused-then-budget-gt-BUDGET_LIMIT.ensures.0, c.refused-then-budget-gt-BUDGET_LIMIT.ensures.1)
     (sym (run-high (machine_of a.state) (bus_on a.board a.mem.now) a.lines a.budget (sym c.admit-admission.ensures ∙ c.in_default.is) c.if-budget-gt-BUDGET_LIMIT.true))
 
-pub returns-then-halted : goal.returns-then-halted
+pub returns-then-state : goal.returns-then-state
 unfolding refused_run
-returns-then-halted c =
+returns-then-state c =
     let a = c.args in
-    rw (c.refused-then-halted.ensures.0, c.refused-then-halted.ensures.1)
-    (sym (run-halted (machine_of a.state) (bus_on a.board a.mem.now) a.lines a.budget (sym c.admit-admission.ensures ∙ c.in_default.is) c.if-budget-gt-BUDGET_LIMIT.false c.if-halted.true))
+    rw (c.refused-then-state.ensures.0, c.refused-then-state.ensures.1)
+    (sym (run-halted (machine_of a.state) (bus_on a.board a.mem.now) a.lines a.budget (sym c.admit-admission.ensures ∙ c.in_default.is) c.if-budget-gt-BUDGET_LIMIT.false c.if-state.true))
 
-pub overflow_cast-cycles : goal.overflow_cast-cycles
-overflow_cast-cycles c =
-    omega (arith, c.make_steps-stopped.ensures.below, c.if-budget-gt-BUDGET_LIMIT.false)
+pub overflow_cast-ended : goal.overflow_cast-ended
+overflow_cast-ended c =
+    omega (arith, c.make_steps-steps.ensures.below, c.if-budget-gt-BUDGET_LIMIT.false)
 
 pub returns : goal.returns
 unfolding finish
@@ -39,8 +39,8 @@ returns c =
     let a = c.args in
     let admitted = sym c.admit-admission.ensures ∙ c.in_default.is in
     rw (
-      run-starts (machine_of a.state) (bus_on a.board a.mem.now) a.lines a.budget admitted c.if-budget-gt-BUDGET_LIMIT.false c.if-halted.false,
+      run-starts (machine_of a.state) (bus_on a.board a.mem.now) a.lines a.budget admitted c.if-budget-gt-BUDGET_LIMIT.false c.if-state.false,
       loop-is-run a.lines a.budget (machine_of a.state) (bus_on a.board a.mem.now) admitted,
-      ← c.make_steps-stopped.ensures.ends,
+      ← c.make_steps-steps.ensures.ends,
       c.ended_by.ensures,
     )
