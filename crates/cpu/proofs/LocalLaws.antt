@@ -3,9 +3,9 @@ use Prim.Native.Nat.{ℕ}
 use mathlib.Core.Path.{◌≡◌, refl, ap, ap₂, sym, subst, ◌∙◌}
 use mathlib.Core.Bool.{Bool, true, false}
 use mathlib.Core.List.{List, [], ◌∷◌, ◌++◌, map}
-use Rattle.std.proofs.Common.{Option, None, Some}
+use Rattle.std.proofs.Common.{Option, None, Some, Result}
 use Rattle.word.specs.Word.{wrap_add}
-use Rattle.memory.specs.declared.Admission.{Admission}
+use Rattle.refusal.specs.declared.Refusal.{Refusal}
 use Rattle.memory.specs.declared.map.Range.{Range}
 use Rattle.memory.specs.declared.map.Board.{Board}
 use Rattle.memory.specs.Bus.{Bus, bus_on, read_of, unless_barred}
@@ -93,7 +93,7 @@ module _ (b c : Bus) where
 pub step-is-local : StepIsLocal
 unfolding step_reads action_of admitted_action
 step-is-local m b c l e h =
-    ap₂ (λ (t : Admission) (a : Action). unless_barred t (refused_step m) a) e (planned-local b c (plan_of (noted m l) l) m (noted m l) l h)
+    ap₂ (λ (t : Result (Unit {0}) Refusal) (a : Action). unless_barred t (refused_step m) a) e (planned-local b c (plan_of (noted m l) l) m (noted m l) l h)
 
 -- buses that read alike agree everywhere
 agree-all : (b c : Bus) → read_of b ≡ read_of c → (xs : List ℕ) → AgreeAt xs b c

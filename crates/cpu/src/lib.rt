@@ -12,7 +12,7 @@ ghost use Rattle.cpu.specs.Step.{decoded_action, decoded, admitted_action, made,
 ghost use Rattle.cpu.specs.Inner.Parts.{machine_in, is_unspecified_form, stepped_of};
 
 use memory::map::{Board, Range};
-use memory::{Admission, near};
+use memory::near;
 use refusal::Refusal;
 
 mod branch;
@@ -202,19 +202,16 @@ pub fn admitted_step(
 pub fn step(state: State, board: Board, mem: &mut [u16], lines: Lines) -> Stepped
     ensures { outcome board result mem.new ≡ step_of (machine_of state) (bus_on board mem.old) lines }
 {
-    let admission = memory::admit(board, mem);
-    match admission {
-        Admission::Barred(refusal) => Stepped {
+    if let Err(refusal) = memory::admit(board, mem) {
+        return Stepped {
             state,
             answer: Err(refusal),
-        },
-        Admission::Admitted => {
-            let left = admitted_step(state, board, near::no_range(), mem, lines);
-            Stepped {
-                state: left.state,
-                answer: left.answer,
-            }
-        }
+        };
+    }
+    let left = admitted_step(state, board, near::no_range(), mem, lines);
+    Stepped {
+        state: left.state,
+        answer: left.answer,
     }
 }
 

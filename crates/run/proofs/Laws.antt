@@ -6,7 +6,6 @@ use native.Mathlib.Omega.{arith}
 use Rattle.std.proofs.Common.{Ok, Err}
 use Rattle.refusal.specs.Report.{Report, refused, answered, is_refused, UnlessRefused}
 use Rattle.refusal.proofs.ReportLaws.{no_answer, same_answer, same-refusal}
-use Rattle.memory.specs.declared.Admission.TheVariants.{Admitted}
 use Rattle.memory.specs.Bus.{Bus, admission_of}
 use Rattle.cpu.specs.declared.Lines.{Lines}
 use Rattle.cpu.specs.Machine.{Machine}
@@ -34,12 +33,12 @@ record Runs (l : Lines) (m : Machine) (b : Bus) (steps cycles : ℕ) (o : RunOut
   unrefused : Unrefused (steps_from m b (repeated more l))
   machine : o.machine ≡ last_machine m (steps_from m b (repeated more l))
   bus : o.bus ≡ last_bus b (steps_from m b (repeated more l))
-  admitted : admission_of o.bus ≡ Admitted
+  admitted : admission_of o.bus ≡ Ok tt
 
 same-done : {steps steps' cycles cycles' : ℕ} (cause : ℕ) → steps ≡ steps' → cycles ≡ cycles' → ◌≡◌ {A = Report RunDone} (answered (record { steps = steps; cycles = cycles; cause = cause })) (answered (record { steps = steps'; cycles = cycles'; cause = cause }))
 same-done cause p q = ap₂ (λ (s c : ℕ). answered (record { steps = s; cycles = c; cause = cause })) p q
 
-no_more : (l : Lines) (m : Machine) (b : Bus) (steps cycles : ℕ) → admission_of b ≡ Admitted → Runs l m b steps cycles (finish m b l steps cycles)
+no_more : (l : Lines) (m : Machine) (b : Bus) (steps cycles : ℕ) → admission_of b ≡ Ok tt → Runs l m b steps cycles (finish m b l steps cycles)
 unfolding finish repeated steps_from cycles_of_all last_machine last_bus Unrefused
 no_more l m b steps cycles s =
     record { more = 0; answer = same-done _ (omega arith) (omega arith); unrefused = tt; machine = refl; bus = refl; admitted = s }
@@ -61,7 +60,7 @@ one_more l m b steps cycles o h r =
       admitted = r.admitted;
     }
 
-runs : (m : Machine) (b : Bus) (l : Lines) (budget : ℕ) → admission_of b ≡ Admitted → Runs l m b 0 0 (run_on m b l budget 0 0)
+runs : (m : Machine) (b : Bus) (l : Lines) (budget : ℕ) → admission_of b ≡ Ok tt → Runs l m b 0 0 (run_on m b l budget 0 0)
 runs m b l budget s =
     by-turns l budget (Runs l)
     (λ m b steps cycles s e. no_more l m b steps cycles s)
@@ -101,7 +100,7 @@ cycles-below m b l budget =
     m b 0 0 s (omega arith))
 
 -- the cause says what holds at the end
-cause-says : (l : Lines) (o : RunOutcome) (x : RunDone) → admission_of o.bus ≡ Admitted → x.cause ≡ cause_number (cause_of o.machine o.bus l) → CauseSays l o x
+cause-says : (l : Lines) (o : RunOutcome) (x : RunDone) → admission_of o.bus ≡ Ok tt → x.cause ≡ cause_number (cause_of o.machine o.bus l) → CauseSays l o x
 cause-says l o x s e = go o.machine.running.halted (meets_unspecified (step_of o.machine o.bus l).answer) refl refl
   where
     met : meets_unspecified (admitted_step o.machine o.bus l).answer ≡ meets_unspecified (step_of o.machine o.bus l).answer

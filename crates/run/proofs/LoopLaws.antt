@@ -11,7 +11,6 @@ use Rattle.std.proofs.Common.{Result, Ok, Err}
 use Rattle.refusal.specs.declared.Refusal.{Refusal}
 use Rattle.refusal.specs.Report.{Report, refused, answered, is_refused}
 use Rattle.word.proofs.Choice.{cond-true, cond-false, cond_both}
-use Rattle.memory.specs.declared.Admission.TheVariants.{Admitted}
 use Rattle.memory.specs.declared.map.Board.{Board}
 use Rattle.memory.specs.Bus.{Bus, bus_on, admission_of}
 use Rattle.memory.specs.Near.{in_front, Near}
@@ -71,7 +70,7 @@ unspecified-free : (a : Report StepDone) → meets_unspecified a ≡ true → cy
 unspecified-free (refused n) e = refl
 unspecified-free (answered x) e = absurd (false≢true e)
 
-halted-free : (m : Machine) (b : Bus) (l : Lines) → admission_of b ≡ Admitted → m.running.halted ≡ true → cycles_of (step_of m b l).answer ≡ 0
+halted-free : (m : Machine) (b : Bus) (l : Lines) → admission_of b ≡ Ok tt → m.running.halted ≡ true → cycles_of (step_of m b l).answer ≡ 0
 unfolding refused_step
 halted-free m b l s h = ap (λ (o : Outcome). cycles_of o.answer) (step-halted m b l s h)
 
@@ -88,7 +87,7 @@ module _ (l : Lines) (budget : ℕ) where
   EndsAlike m b steps cycles o = (a : Report StepDone) → o ≡ ending_of l (loop_on l budget steps cycles (from m b a))
 
   -- a step that costs nothing leaves all as it was
-  end-free : (m : Machine) (b : Bus) (steps cycles : ℕ) → admission_of b ≡ Admitted → cycles_of (step_of m b l).answer ≡ 0 → EndsAlike m b steps cycles (finish m b l steps cycles)
+  end-free : (m : Machine) (b : Bus) (steps cycles : ℕ) → admission_of b ≡ Ok tt → cycles_of (step_of m b l).answer ≡ 0 → EndsAlike m b steps cycles (finish m b l steps cycles)
   end-free m b steps cycles s z a = go (ltb cycles budget) refl
     where
       go : (t : Bool) → ltb cycles budget ≡ t → finish m b l steps cycles ≡ ending_of l (loop_on l budget steps cycles (from m b a))
@@ -100,7 +99,7 @@ module _ (l : Lines) (budget : ℕ) where
           ∙ ap (λ (o : Outcome). ending_of l (stop steps cycles o)) e
           ∙ ap (ending_of l) (sym (loop-refused l budget steps cycles (from m b a) (ltb-true cycles budget p) (ap (λ (o : Outcome). cycles_of o.answer) (sym e) ∙ z)))
 
-  end-alike : (m : Machine) (b : Bus) (steps cycles : ℕ) → admission_of b ≡ Admitted → steps_on m b l budget cycles ≡ false → EndsAlike m b steps cycles (finish m b l steps cycles)
+  end-alike : (m : Machine) (b : Bus) (steps cycles : ℕ) → admission_of b ≡ Ok tt → steps_on m b l budget cycles ≡ false → EndsAlike m b steps cycles (finish m b l steps cycles)
   end-alike m b steps cycles s e = go (rests m b l budget cycles e)
     where
       go : Rests m b l budget cycles → EndsAlike m b steps cycles (finish m b l steps cycles)
@@ -116,12 +115,12 @@ module _ (l : Lines) (budget : ℕ) where
       ∙ ap (λ (x : Outcome). ending_of l (loop_on l budget (steps + 1) (cycles + cycles_of x.answer) x)) e
       ∙ ap (ending_of l) (sym (loop-on l budget steps cycles (from m b a) k.below (λ z. omega (arith, k.charged, q, z))))
 
-  pub loop-is-run : (m : Machine) (b : Bus) → admission_of b ≡ Admitted → run_on m b l budget 0 0 ≡ ending_of l (loop_of m b l budget)
+  pub loop-is-run : (m : Machine) (b : Bus) → admission_of b ≡ Ok tt → run_on m b l budget 0 0 ≡ ending_of l (loop_of m b l budget)
   unfolding loop_of
   loop-is-run m b s = by-turns l budget EndsAlike end-alike step-alike m b 0 0 s (unstepped m b).answer
 
 -- a budget of 1 makes one step
-pub loop-is-step : (m : Machine) (b : Bus) (l : Lines) → admission_of b ≡ Admitted → (loop_of m b l 1).left ≡ step_of m b l
+pub loop-is-step : (m : Machine) (b : Bus) (l : Lines) → admission_of b ≡ Ok tt → (loop_of m b l 1).left ≡ step_of m b l
 unfolding loop_of loop_on loop_from
 loop-is-step m b l s =
     cond_both (λ (e : LoopEnd). e.left ≡ admitted_step m b l) (eqb (cycles_of (admitted_step m b l).answer) 0) refl refl

@@ -2,16 +2,17 @@
 // unspecified form.
 #![tactic(auto)]
 
-ghost use Rattle.std.specs.Prelude.{◌≡◌, ◌+◌, ◌<◌, ◌≤◌, Err};
+ghost use Rattle.std.specs.Prelude.{◌≡◌, ◌+◌, ◌<◌, ◌≤◌};
 ghost use Rattle.memory.specs.Bus.{bus_on};
 ghost use Rattle.cpu.specs.Machine.{machine_of};
 ghost use Rattle.cpu.specs.Step.{outcome, step_of};
 ghost use Rattle.run.specs.Run.{cause_of, run_outcome, run_of};
+ghost use Rattle.run.specs.Inner.Admission.{run_admission};
 ghost use Rattle.run.specs.Inner.Loop.{stopped_of, loop_end, loop_of};
 
 use cpu::{Done, Kind, Lines, NearStep, State, Status, Stepped};
 use memory::map::Board;
-use memory::{Admission, near};
+use memory::near;
 use refusal::Refusal;
 
 // What ended a run.
@@ -117,8 +118,7 @@ fn make_steps(state: State, board: Board, mem: &mut [u16], lines: Lines, budget:
 pub fn one_step(state: State, board: Board, mem: &mut [u16], lines: Lines) -> Stepped
     ensures { outcome board result mem.new ≡ step_of (machine_of state) (bus_on board mem.old) lines }
 {
-    let admission = memory::admit(board, mem);
-    if let Admission::Barred(refusal) = admission {
+    if let Err(refusal) = memory::admit(board, mem) {
         return Stepped {
             state,
             answer: Err(refusal),
@@ -144,28 +144,30 @@ fn ended_by(state: State, board: Board, mem: &[u16], lines: Lines) -> Cause
     }
 }
 
-fn refused(state: State, refusal: Refusal) -> Ran
-    ensures { (result.state ≡ state) × (result.answer ≡ Err refusal) }
+// Whether a run is let in: the tests 1 and 14, then 4, then 2.
+#[tactic(auto, unfolding(crate::specs::Inner::Admission::run_admission))]
+fn admit(state: State, board: Board, mem: &[u16], budget: u32) -> Result<(), Refusal>
+    ensures { result ≡ run_admission (machine_of state) (bus_on board mem.now) budget }
 {
-    Ran {
-        state,
-        answer: Err(refusal),
+    memory::admit(board, mem)?;
+    if BUDGET_LIMIT < budget {
+        return Err(Refusal::BudgetTooHigh);
     }
+    if state.status.halted {
+        return Err(Refusal::Halted);
+    }
+    Ok(())
 }
 
 // Runs for a budget of 0 to 1,000,000 cycles.
 pub fn run(state: State, board: Board, mem: &mut [u16], lines: Lines, budget: u32) -> Ran
     ensures { run_outcome board result mem.new ≡ run_of (machine_of state) (bus_on board mem.old) lines budget }
 {
-    let admission = memory::admit(board, mem);
-    if let Admission::Barred(refusal) = admission {
-        return refused(state, refusal);
-    }
-    if BUDGET_LIMIT < budget {
-        return refused(state, Refusal::BudgetTooHigh);
-    }
-    if state.status.halted {
-        return refused(state, Refusal::Halted);
+    if let Err(refusal) = admit(state, board, mem, budget) {
+        return Ran {
+            state,
+            answer: Err(refusal),
+        };
     }
     let Stop {
         state,
