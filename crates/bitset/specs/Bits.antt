@@ -1,9 +1,7 @@
 -- A set of addresses in lent words: document 02, [4]: "one bit an address, 64 to a word, lowest bit first".
-use Rattle.std.specs.Prelude.{ℕ, zero, suc, ◌+◌, ◌/◌, ◌%◌, ◌^◌, ◌<◌, ◌≡◌, Bool, not, cond, ◌||◌, List, eqb, length, get_or, set}
+use Rattle.std.specs.Prelude.{ℕ, zero, suc, ◌+◌, ◌/◌, ◌%◌, ◌^◌, ◌<◌, ◌≡◌, Bool, not, cond, ◌||◌, List, eqb, length, get_or, set, Option, None, Some}
 use Rattle.std.specs.Int.Bits.{bit_or}
 use Rattle.word.specs.Word.{bit}
-use Rattle.bitset.specs.declared.Lowest.{Lowest}
-use Rattle.bitset.specs.declared.Lowest.TheVariants.{Nothing, At}
 
 -- "a set buffer .. of 1,024 words": one bit for each of 65,536 addresses
 abbrev pub set_length : ℕ
@@ -46,9 +44,9 @@ lowest_below f zero = none
 lowest_below f (suc n) = cond (f n) (keep_lowest (lowest_below f n) n) (lowest_below f n)
 
 -- what the code's lowest stands for
-abbrev pub lowest_or_none : Lowest → LowestOrNone
-lowest_or_none Nothing = none
-lowest_or_none (At a) = lowest_at a
+abbrev pub lowest_or_none : Option ℕ → LowestOrNone
+lowest_or_none None = none
+lowest_or_none (Some a) = lowest_at a
 
 -- how many addresses are in the set
 abbrev pub size_of : List ℕ → ℕ

@@ -7,17 +7,10 @@ ghost use Rattle.bitset.specs.Bits.{contains, inserted, in_either, count_below, 
 // A set of all 65,536 addresses has so many words.
 pub const WORDS: usize = 1024;
 
-// The lowest member, or that there is none.
-#[derive(Clone, Copy)]
-pub enum Lowest {
-    Nothing,
-    At(u16),
-}
-
 fn word_at(words: &[u64], i: usize) -> u64
     ensures { result ≡ get_or words.now i 0 }
 {
-    if i < words.len() { words[i] } else { 0 }
+    words.get(i).copied().unwrap_or(0)
 }
 
 // Whether an address is in the set.
@@ -36,7 +29,7 @@ pub fn insert(words: &mut [u64], address: u16) -> bool
     if words.len() <= i {
         return !known;
     }
-    words[i] = words[i] | (1u64 << (address % 64));
+    words[i] |= 1 << (address % 64);
     !known
 }
 
@@ -44,37 +37,29 @@ pub fn insert(words: &mut [u64], address: u16) -> bool
 pub fn reset(words: &mut [u64])
     ensures { words.new ≡ replicate (length words.old) 0 }
 {
-    let mut i = 0;
-    while i < words.len() {
-        words[i] = 0;
-        i += 1;
-    }
+    words.fill(0);
 }
 
 // How many addresses are in one set or the other, each once.
 pub fn count_either(one: &[u64], other: &[u64]) -> u32
     ensures { result ≡ count_below (in_either one.now other.now) 65536 }
 {
-    let mut count: u32 = 0;
-    let mut i = 0;
-    while i < WORDS {
-        count += u64::count_ones(word_at(one, i) | word_at(other, i));
-        i += 1;
+    let mut count = 0;
+    for i in 0..WORDS {
+        count += (word_at(one, i) | word_at(other, i)).count_ones();
     }
     count
 }
 
 // The lowest address in the set: the lowest bit of the first word that has one.
-pub fn find_lowest(words: &[u64]) -> Lowest
+pub fn find_lowest(words: &[u64]) -> Option<u16>
     ensures { lowest_or_none result ≡ lowest_below (contains words.now) 65536 }
 {
-    let mut i: usize = 0;
-    while i < WORDS {
+    for i in 0..WORDS {
         let word = word_at(words, i);
         if word != 0 {
-            return Lowest::At((64 * i) as u16 + u64::trailing_zeros(word) as u16);
+            return Some((64 * i) as u16 + word.trailing_zeros() as u16);
         }
-        i += 1;
     }
-    Lowest::Nothing
+    None
 }

@@ -6,12 +6,12 @@ use mathlib.Core.List.{List, [], ◌∷◌}
 use native.Mathlib.Omega.{arith}
 use lib.Dec.{lit≤}
 use lib.ListN.{length}
+use Rattle.std.proofs.Common.{Option, None, Some, Ok, Err}
 use Rattle.refusal.specs.declared.Refusal.{Refusal}
-use Rattle.refusal.specs.declared.Refusal.TheVariants.{Halted, Unspecified as UnspecifiedForm}
+use Rattle.refusal.specs.declared.Refusal.TheVariants.{Halted, Unspecified}
 use Rattle.refusal.specs.Report.{Report, refused, answered, UnlessRefused}
 use Rattle.refusal.proofs.ReportLaws.{no_answer}
 use Rattle.word.proofs.Choice.{cond-true, cond-false, cond_both}
-use Rattle.memory.specs.declared.Admission.TheVariants.{Admitted, Barred}
 use Rattle.memory.specs.declared.map.Board.{Board}
 use Rattle.memory.specs.Memory.{peek_of, poke_of}
 use Rattle.memory.specs.Bus.{Bus, bus_of, bus_on, read_of, store_of, Store, keep, put, stored, admission_of}
@@ -21,8 +21,6 @@ use Rattle.memory.proofs.BusLaws.{bus-laws, stored-admission, unless-both, unles
 use Rattle.memory.proofs.MapLaws.{map-laws}
 use Rattle.decode.specs.declared.Instr.{Instr}
 use Rattle.decode.specs.declared.Instr.TheVariants.{Hlt, Control, Jump, Single, Gswd, Nop, Sin, Shift, Register, Branch, Store as StoreRow, Read}
-use Rattle.decode.specs.declared.Decoded.{Decoded}
-use Rattle.decode.specs.declared.Decoded.TheVariants.{Unspecified, Known}
 use Rattle.decode.specs.declared.rows.Row.{Row}
 use Rattle.decode.specs.Rows.{branch_cycles, row_of}
 use Rattle.decode.proofs.RowLaws.{row-bounds}
@@ -47,9 +45,9 @@ pub by-admitted : (P : Action → Type 0) (m : Machine) (b : Bus) (l : Lines) �
 unfolding admitted_action
 by-admitted P m b l refusal grant interrupt execute = plans (plan_of (noted m l) l)
   where
-    decodes : (x : Decoded) → P (decoded_action x m (noted m l) b l)
-    decodes Unspecified = refusal UnspecifiedForm
-    decodes (Known i) = execute i
+    decodes : (x : Option Instr) → P (decoded_action x m (noted m l) b l)
+    decodes None = refusal Unspecified
+    decodes (Some i) = execute i
 
     plans : (p : Plan) → P (planned p m (noted m l) b l)
     plans Halting = refusal Halted
@@ -69,24 +67,24 @@ by-action P m b l refusal grant interrupt execute =
     unless-both P (admission_of b) refusal (by-admitted P m b l refusal grant interrupt execute)
 
 -- a step that is let in, one that is not, one that goes by a plan, and one that makes an instruction
-pub step-admitted : (m : Machine) (b : Bus) (l : Lines) → admission_of b ≡ Admitted → step_of m b l ≡ admitted_step m b l
+pub step-admitted : (m : Machine) (b : Bus) (l : Lines) → admission_of b ≡ Ok tt → step_of m b l ≡ admitted_step m b l
 unfolding step_of action_of admitted_step
 step-admitted m b l h = ap (made b) (unless-in (refused_step m) (admitted_action m b l) h)
 
-pub step-barred : (m : Machine) (b : Bus) (l : Lines) {r : Refusal} → admission_of b ≡ Barred r → step_of m b l ≡ made b (refused_step m r)
+pub step-barred : (m : Machine) (b : Bus) (l : Lines) {r : Refusal} → admission_of b ≡ Err r → step_of m b l ≡ made b (refused_step m r)
 unfolding step_of action_of
 step-barred m b l h = ap (made b) (unless-out (refused_step m) (admitted_action m b l) h)
 
-pub step-by-plan : (m : Machine) (b : Bus) (l : Lines) (p : Plan) → admission_of b ≡ Admitted → plan_of (noted m l) l ≡ p → step_of m b l ≡ made b (planned p m (noted m l) b l)
+pub step-by-plan : (m : Machine) (b : Bus) (l : Lines) (p : Plan) → admission_of b ≡ Ok tt → plan_of (noted m l) l ≡ p → step_of m b l ≡ made b (planned p m (noted m l) b l)
 unfolding admitted_step admitted_action
 step-by-plan m b l p h e = step-admitted m b l h ∙ ap (λ (q : Plan). made b (planned q m (noted m l) b l)) e
 
 pub step-executes : (m : Machine) (b : Bus) (l : Lines) (i : Instr) → Executes m b l i → step_of m b l ≡ made b (executed (noted m l) b l i)
 unfolding noted
 step-executes m b l i h =
-    step-by-plan m b l Executing h.admitted h.plan ∙ ap (λ (x : Decoded). made b (decoded_action x m (noted m l) b l)) h.instruction
+    step-by-plan m b l Executing h.admitted h.plan ∙ ap (λ (x : Option Instr). made b (decoded_action x m (noted m l) b l)) h.instruction
 
-pub step-halted : (m : Machine) (b : Bus) (l : Lines) → admission_of b ≡ Admitted → m.running.halted ≡ true → step_of m b l ≡ made b (refused_step m Halted)
+pub step-halted : (m : Machine) (b : Bus) (l : Lines) → admission_of b ≡ Ok tt → m.running.halted ≡ true → step_of m b l ≡ made b (refused_step m Halted)
 unfolding plan_of noted
 step-halted m b l h e = step-by-plan m b l Halting h (cond-true _ _ e)
 
@@ -252,12 +250,12 @@ uncharged-keeps-all m b l z = go (step_of m b l).answer refl (step-charged m b l
 abbrev pub Costly : Report StepDone → Type 0
 Costly a = meets_unspecified a ≡ false → 1 ≤ cycles_of a
 
-decoded-costly : (x : Decoded) (given m : Machine) (b : Bus) (l : Lines) → Costly (decoded_action x given m b l).answer
+decoded-costly : (x : Option Instr) (given m : Machine) (b : Bus) (l : Lines) → Costly (decoded_action x given m b l).answer
 unfolding refused_step executed_from executed
-decoded-costly Unspecified given m b l e = absurd (true≢false e)
-decoded-costly (Known i) given m b l e = let c = cycles-bounded i m.switches.d l.external m in omega (arith, c.0)
+decoded-costly None given m b l e = absurd (true≢false e)
+decoded-costly (Some i) given m b l e = let c = cycles-bounded i m.switches.d l.external m in omega (arith, c.0)
 
-pub step-charges : (m : Machine) (b : Bus) (l : Lines) → admission_of b ≡ Admitted → m.running.halted ≡ false → Costly (step_of m b l).answer
+pub step-charges : (m : Machine) (b : Bus) (l : Lines) → admission_of b ≡ Ok tt → m.running.halted ≡ false → Costly (step_of m b l).answer
 unfolding plan_of noted granted interrupted
 step-charges m b l h run =
     let k : Machine = noted m l in

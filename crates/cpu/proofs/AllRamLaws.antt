@@ -2,8 +2,8 @@
 use Prim.Native.Nat.{ℕ}
 use mathlib.Core.Path.{◌≡◌, refl, ap, sym, subst, ◌∙◌}
 use mathlib.Core.List.{List, [], ◌∷◌, map}
-use Rattle.memory.specs.declared.Admission.{Admission}
-use Rattle.memory.specs.declared.Admission.TheVariants.{Admitted, Barred}
+use Rattle.std.proofs.Common.{Result, Ok, Err}
+use Rattle.refusal.specs.declared.Refusal.{Refusal}
 use Rattle.memory.specs.declared.map.Board.{Board}
 use Rattle.memory.specs.Bus.{Bus, bus_of, on_board, bus_on, Store, keep, put, stored, admission_of}
 use Rattle.memory.specs.Laws.{AllRam}
@@ -18,11 +18,11 @@ use Rattle.cpu.proofs.LocalLaws.{goes-by-reads}
 
 module _ (b : Board) (h : AllRam b) where
   -- who is let in stores alike
-  stored-alike : (words : List ℕ) → admission_of (bus_of words) ≡ Admitted → (s : Store) → stored (bus_on b words) s ≡ on_board b (stored (bus_of words) s)
+  stored-alike : (words : List ℕ) → admission_of (bus_of words) ≡ Ok tt → (s : Store) → stored (bus_on b words) s ≡ on_board b (stored (bus_of words) s)
   stored-alike words e keep = refl
   stored-alike words e (put a w) = all-ram-laws.stores b words h e a w
 
-  pub admitted-all-ram : (m : Machine) (words : List ℕ) (l : Lines) → admission_of (bus_of words) ≡ Admitted → admitted_step m (bus_on b words) l ≡ outcome_on b (admitted_step m (bus_of words) l)
+  pub admitted-all-ram : (m : Machine) (words : List ℕ) (l : Lines) → admission_of (bus_of words) ≡ Ok tt → admitted_step m (bus_on b words) l ≡ outcome_on b (admitted_step m (bus_of words) l)
   unfolding admitted_step
   admitted-all-ram m words l e =
       ap (made (bus_on b words)) (goes-by-reads m (bus_on b words) (bus_of words) l (all-ram-laws.reads b words h e))
@@ -33,12 +33,12 @@ module _ (b : Board) (h : AllRam b) where
   unfolding refused_step
   one m words l = by-admission (admission_of (bus_of words)) refl
     where
-      by-admission : (a : Admission) → admission_of (bus_of words) ≡ a → step_of m (bus_on b words) l ≡ outcome_on b (step_of m (bus_of words) l)
-      by-admission Admitted e =
+      by-admission : (a : Result (Unit {0}) Refusal) → admission_of (bus_of words) ≡ a → step_of m (bus_on b words) l ≡ outcome_on b (step_of m (bus_of words) l)
+      by-admission (Ok u) e =
           step-admitted m (bus_on b words) l (all-ram-laws.admits b words h ∙ e)
           ∙ admitted-all-ram m words l e
           ∙ ap (outcome_on b) (sym (step-admitted m (bus_of words) l e))
-      by-admission (Barred r) e =
+      by-admission (Err r) e =
           step-barred m (bus_on b words) l (all-ram-laws.admits b words h ∙ e)
           ∙ ap (outcome_on b) (sym (step-barred m (bus_of words) l e))
 

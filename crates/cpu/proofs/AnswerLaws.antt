@@ -1,32 +1,29 @@
 -- No two answers of a step are reported alike.
 use Prim.Native.Nat.{ℕ}
-use mathlib.Core.Path.{◌≡◌, ap, sym}
+use mathlib.Core.Path.{◌≡◌, refl, ap, ap₂, sym}
 use native.Mathlib.Omega.{arith}
+use Rattle.std.proofs.Common.{Ok, Err}
 use Rattle.refusal.proofs.ReportLaws.{no_answer, same_answer, same-refusal}
-use Rattle.cpu.specs.declared.StepAnswer.TheVariants.{Refused, Granted, Interrupted, Executed}
-use Rattle.cpu.specs.Answer.{StepDone, done, StepsApart}
+use Rattle.cpu.specs.declared.Kind.{Kind}
+use Rattle.cpu.specs.declared.Kind.TheVariants.{Granted, Interrupted, Executed}
+use Rattle.cpu.specs.Answer.{StepDone, kind_number, StepsApart}
 
--- two kinds whose numbers differ, and two answers of one kind
-kinds : {A : Type 0} (a b : ℕ) {n m : ℕ} → (a ≡ b → ⊥) → done a n ≡ done b m → A
-kinds a b h e = absurd (h (ap (λ (x : StepDone). x.kind) (same_answer e)))
-
-same-cycles : {a n m : ℕ} → done a n ≡ done a m → n ≡ m
-same-cycles e = ap (λ (x : StepDone). x.cycles) (same_answer e)
+same-kind : (a b : Kind) → kind_number a ≡ kind_number b → a ≡ b
+same-kind Granted Granted e = refl
+same-kind Granted Interrupted e = absurd (omega arith)
+same-kind Granted Executed e = absurd (omega arith)
+same-kind Interrupted Granted e = absurd (omega arith)
+same-kind Interrupted Interrupted e = refl
+same-kind Interrupted Executed e = absurd (omega arith)
+same-kind Executed Granted e = absurd (omega arith)
+same-kind Executed Interrupted e = absurd (omega arith)
+same-kind Executed Executed e = refl
 
 pub steps_apart : StepsApart
-steps_apart (Refused a) (Refused b) e = ap Refused (same-refusal a b e)
-steps_apart (Refused a) (Granted b) e = no_answer e
-steps_apart (Refused a) (Interrupted b) e = no_answer e
-steps_apart (Refused a) (Executed b) e = no_answer e
-steps_apart (Granted a) (Refused b) e = no_answer (sym e)
-steps_apart (Granted a) (Granted b) e = ap Granted (same-cycles e)
-steps_apart (Granted a) (Interrupted b) e = kinds 3 4 (λ z. omega arith) e
-steps_apart (Granted a) (Executed b) e = kinds 3 5 (λ z. omega arith) e
-steps_apart (Interrupted a) (Refused b) e = no_answer (sym e)
-steps_apart (Interrupted a) (Granted b) e = kinds 4 3 (λ z. omega arith) e
-steps_apart (Interrupted a) (Interrupted b) e = ap Interrupted (same-cycles e)
-steps_apart (Interrupted a) (Executed b) e = kinds 4 5 (λ z. omega arith) e
-steps_apart (Executed a) (Refused b) e = no_answer (sym e)
-steps_apart (Executed a) (Granted b) e = kinds 5 3 (λ z. omega arith) e
-steps_apart (Executed a) (Interrupted b) e = kinds 5 4 (λ z. omega arith) e
-steps_apart (Executed a) (Executed b) e = ap Executed (same-cycles e)
+steps_apart (Err a) (Err b) e = ap Err (same-refusal a b e)
+steps_apart (Err a) (Ok x) e = no_answer e
+steps_apart (Ok x) (Err b) e = no_answer (sym e)
+steps_apart (Ok x) (Ok y) e =
+    let d = same_answer e in
+    let k = same-kind x.kind y.kind (ap (λ (z : StepDone). z.kind) d) in
+    ap₂ (λ (k : Kind) (n : ℕ). Ok (record { kind = k; cycles = n })) k (ap (λ (z : StepDone). z.cycles) d)

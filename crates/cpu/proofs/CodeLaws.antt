@@ -5,6 +5,7 @@ use mathlib.Core.Bool.{Bool, true, false, not, ◌&&◌, ◌||◌}
 use mathlib.Core.List.{List, [], map}
 use native.Mathlib.Omega.{arith}
 use lib.ListN.{get_or}
+use Rattle.std.proofs.Common.{Option, None, Some}
 use Rattle.word.specs.Word.{wrap_add}
 use Rattle.memory.specs.declared.map.Range.{Range}
 use Rattle.memory.specs.declared.map.Board.{Board}
@@ -13,8 +14,6 @@ use Rattle.memory.specs.Near.{in_front, near_of}
 use Rattle.memory.proofs.NearLaws.{near-laws}
 use Rattle.decode.specs.declared.Instr.{Instr}
 use Rattle.decode.specs.declared.Instr.TheVariants.{Hlt, Control, Jump, Single, Gswd, Nop, Sin, Shift, Register, Branch, Store as StoreRow, Read}
-use Rattle.decode.specs.declared.Decoded.{Decoded}
-use Rattle.decode.specs.declared.Decoded.TheVariants.{Unspecified, Known}
 use Rattle.decode.specs.declared.rows.Row.{Row}
 use Rattle.decode.specs.Fields.{opcode_of}
 use Rattle.decode.specs.Decode.{instruction_of, specified, decode_at}
@@ -62,7 +61,7 @@ module _ (before k : Status) (l : Lines) (n : k ≡ noted_in before l) where
 
 -- the opcode is fetched with the range at hand before, and all else is read with the one after
 pub fetched-decodes :
-    (b : Board) (given near : Range) (words : List ℕ) (at first : ℕ) (double : Bool) {i : Instr} {x : Decoded} →
+    (b : Board) (given near : Range) (words : List ℕ) (at first : ℕ) (double : Bool) {i : Instr} {x : Option Instr} →
     near ≡ near_of b given at →
     first ≡ read_of (bus_on (in_front given b) words) at →
     i ≡ instruction_of (opcode_of first) →
@@ -131,7 +130,7 @@ module _ (r : List ℕ) (k : Status) (runs : k.halted ≡ false) where
   -- the change that the instruction's row answers, to registers with R7 one on, and its store made: b is the lent bus, c the one that is read
   pub instruction-is :
       (given : Machine) (b c after : Bus) (l : Lines) (i : Instr) (x : Change) (seen : List ℕ) →
-      decoded (machine_in r k) c ≡ Known i →
+      decoded (machine_in r k) c ≡ Some i →
       seen ≡ with_register 7 (wrap_add (get_or r 7 0) 1) r →
       Leaves x seen (effect_at i (get_or r 7 0) seen k (read_of c) l.external).machine (cycles_at i (get_or r 7 0) seen k l.external) →
       after ≡ stored b (effect_at i (get_or r 7 0) seen k (read_of c) l.external).store →
@@ -147,13 +146,13 @@ module _ (r : List ℕ) (k : Status) (runs : k.halted ≡ false) where
       ap (λ (m : Machine). outcome m x.cycles after) kept.machine
       ∙ ap₂ (outcome _) kept.costs put
       ∙ ap (made b) (sym (executed-is c l i))
-      ∙ ap (λ (d : Decoded). made b (decoded_action d given (machine_in r k) c l)) (sym e)
+      ∙ ap (λ (d : Option Instr). made b (decoded_action d given (machine_in r k) c l)) (sym e)
 
 -- an instruction is refused exactly if its form is unspecified
 pub looks-ahead : (r : List ℕ) (k : Status) (given : Machine) (b : Bus) (l : Lines) → is_unspecified_form (decoded (machine_in r k) b) ≡ meets_unspecified (planned Executing given (machine_in r k) b l).answer
 unfolding refused_step executed executed_from
 looks-ahead r k given b l = go (decoded (machine_in r k) b)
   where
-    go : (x : Decoded) → is_unspecified_form x ≡ meets_unspecified (decoded_action x given (machine_in r k) b l).answer
-    go Unspecified = refl
-    go (Known i) = refl
+    go : (x : Option Instr) → is_unspecified_form x ≡ meets_unspecified (decoded_action x given (machine_in r k) b l).answer
+    go None = refl
+    go (Some i) = refl

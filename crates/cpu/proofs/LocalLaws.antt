@@ -3,8 +3,9 @@ use Prim.Native.Nat.{ℕ}
 use mathlib.Core.Path.{◌≡◌, refl, ap, ap₂, sym, subst, ◌∙◌}
 use mathlib.Core.Bool.{Bool, true, false}
 use mathlib.Core.List.{List, [], ◌∷◌, ◌++◌, map}
+use Rattle.std.proofs.Common.{Option, None, Some, Result}
 use Rattle.word.specs.Word.{wrap_add}
-use Rattle.memory.specs.declared.Admission.{Admission}
+use Rattle.refusal.specs.declared.Refusal.{Refusal}
 use Rattle.memory.specs.declared.map.Range.{Range}
 use Rattle.memory.specs.declared.map.Board.{Board}
 use Rattle.memory.specs.Bus.{Bus, bus_on, read_of, unless_barred}
@@ -13,8 +14,6 @@ use Rattle.memory.specs.Laws.{AgreeAt}
 use Rattle.memory.proofs.NearLaws.{near-laws}
 use Rattle.decode.specs.declared.Instr.{Instr}
 use Rattle.decode.specs.declared.Instr.TheVariants.{Hlt, Control, Jump, Single, Gswd, Nop, Sin, Shift, Register, Branch, Store as StoreRow, Read}
-use Rattle.decode.specs.declared.Decoded.{Decoded}
-use Rattle.decode.specs.declared.Decoded.TheVariants.{Unspecified, Known}
 use Rattle.decode.specs.Fields.{Mode, direct, through, rising, stack, immediate, mode_of}
 use Rattle.decode.specs.Rows.{row_of}
 use Rattle.decode.specs.Reads.{decoding_reads}
@@ -70,16 +69,16 @@ module _ (b c : Bus) where
   reads_local (Read row s d) double at m h = fetch-local (mode_of s) double at m h
 
   -- the words that an execution reads, and so what is done at a decoded instruction
-  pub words-local : (m : Machine) (i : Instr) → AgreeAt (decoded_reads (Known i) m b) b c → execution_words m b i ≡ execution_words m c i
+  pub words-local : (m : Machine) (i : Instr) → AgreeAt (decoded_reads (Some i) m b) b c → execution_words m b i ≡ execution_words m c i
   unfolding execution_words
   words-local m i h =
-      map-agree (decoded_reads (Known i) m b) h
+      map-agree (decoded_reads (Some i) m b) h
       ∙ ap (map (read_of c)) (reads_local i m.switches.d (register 7 m) (begun (row_of i m.switches.d) m) h)
 
-  decoded-local : (x : Decoded) (given m : Machine) (l : Lines) → AgreeAt (decoded_reads x m b) b c → decoded_action x given m b l ≡ decoded_action x given m c l
+  decoded-local : (x : Option Instr) (given m : Machine) (l : Lines) → AgreeAt (decoded_reads x m b) b c → decoded_action x given m b l ≡ decoded_action x given m c l
   unfolding executed
-  decoded-local Unspecified given m l h = refl
-  decoded-local (Known i) given m l h = ap (λ (words : List ℕ). executed_from m words l i) (words-local m i h)
+  decoded-local None given m l h = refl
+  decoded-local (Some i) given m l h = ap (λ (words : List ℕ). executed_from m words l i) (words-local m i h)
 
   planned-local : (p : Plan) (given m : Machine) (l : Lines) → AgreeAt (planned_reads p m b) b c → planned p given m b l ≡ planned p given m c l
   planned-local Halting given m l h = refl
@@ -89,12 +88,12 @@ module _ (b c : Bus) where
       let first : List ℕ = decoding_reads (read_of b) (register 7 m) in
       let more : List ℕ = decoded_reads (decoded m b) m b in
       decoded-local (decoded m b) given m l (agree_right first more h)
-      ∙ ap (λ (x : Decoded). decoded_action x given m c l) (decoding-is-local b c (register 7 m) m.switches.d (agree_left first more h))
+      ∙ ap (λ (x : Option Instr). decoded_action x given m c l) (decoding-is-local b c (register 7 m) m.switches.d (agree_left first more h))
 
 pub step-is-local : StepIsLocal
 unfolding step_reads action_of admitted_action
 step-is-local m b c l e h =
-    ap₂ (λ (t : Admission) (a : Action). unless_barred t (refused_step m) a) e (planned-local b c (plan_of (noted m l) l) m (noted m l) l h)
+    ap₂ (λ (t : Result (Unit {0}) Refusal) (a : Action). unless_barred t (refused_step m) a) e (planned-local b c (plan_of (noted m l) l) m (noted m l) l h)
 
 -- buses that read alike agree everywhere
 agree-all : (b c : Bus) → read_of b ≡ read_of c → (xs : List ℕ) → AgreeAt xs b c

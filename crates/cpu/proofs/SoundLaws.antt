@@ -8,6 +8,7 @@ use native.Mathlib.Omega.{arith}
 use lib.Bits.{bit_and, bit_xor, and_le_l, xor_lt}
 use lib.Dec.{eqb, leb, lit<}
 use lib.ListN.{length}
+use Rattle.std.proofs.Common.{Some}
 use Rattle.word.specs.declared.Flagged.{Flagged}
 use Rattle.word.specs.Word.{wrap_add, wrap_sub}
 use Rattle.word.specs.Flags.{with_sign, add_of, subtract_of, status_word}
@@ -19,7 +20,6 @@ use Rattle.memory.specs.Laws.{BusWords}
 use Rattle.memory.proofs.BusLaws.{bus-laws}
 use Rattle.decode.specs.declared.Instr.{Instr}
 use Rattle.decode.specs.declared.Instr.TheVariants.{Hlt, Control, Jump, Single, Gswd, Nop, Sin, Shift, Register, Branch, Store as StoreRow, Read}
-use Rattle.decode.specs.declared.Decoded.TheVariants.{Known}
 use Rattle.decode.specs.declared.rows.Row.{Row}
 use Rattle.decode.specs.Fields.{Mode, direct, through, rising, stack, immediate, mode_of, joined, is_backward, branch_target, Return, no_return, return_in, return_of, jump_target}
 use Rattle.decode.specs.Rows.{row_of}
@@ -200,7 +200,7 @@ module _ (W : ℕ → Type 0) (c : Closed W) where
       (q, tt)
       (let p = set-fits 7 0x1004 _ (set-fits 6 _ k q (c.sum _ _)) c.entry in (record { eight = p.eight; words = p.words }, q.words 7))
       (λ i. execute-fits i m.switches.d _ (register 7 m) l.external (begun (row_of i m.switches.d) k) (begun-fits _ k q)
-      (words_fit (read_of b) r (decoded_reads (Known i) k b)))
+      (words_fit (read_of b) r (decoded_reads (Some i) k b)))
 
 -- asked nothing of the words: eight registers
 anything : Closed (λ n. Unit)

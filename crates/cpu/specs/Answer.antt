@@ -1,10 +1,12 @@
 -- What a step reports: "The answer names 3, 4 or 5 and the cycles", or the refusal's number.
-use Rattle.std.specs.Prelude.{ℕ, Bool, false, eqb}
+use Rattle.std.specs.Prelude.{ℕ, Bool, false, eqb, Result, Ok, Err}
+use Rattle.refusal.specs.declared.Refusal.{Refusal}
 use Rattle.refusal.specs.declared.Refusal.TheVariants.{Unspecified}
 use Rattle.refusal.specs.Refusals.{refusal_number}
 use Rattle.refusal.specs.Report.{Report, refused, answered, OneToOne}
-use Rattle.cpu.specs.declared.StepAnswer.{StepAnswer}
-use Rattle.cpu.specs.declared.StepAnswer.TheVariants.{Refused, Granted, Interrupted, Executed}
+use Rattle.cpu.specs.declared.Kind.{Kind}
+use Rattle.cpu.specs.declared.Kind.TheVariants.{Granted, Interrupted, Executed}
+use Rattle.cpu.specs.declared.Done.{Done}
 
 -- the kinds are the order's numbers: 3 the bus is granted, 4 an interrupt is served, 5 one instruction
 pub record StepDone : Type 0 where
@@ -14,11 +16,14 @@ pub record StepDone : Type 0 where
 abbrev pub done : ℕ → ℕ → Report StepDone
 done kind cycles = answered (record { kind = kind; cycles = cycles })
 
-abbrev pub step_report : StepAnswer → Report StepDone
-step_report (Refused r) = refused (refusal_number r)
-step_report (Granted n) = done 3 n
-step_report (Interrupted n) = done 4 n
-step_report (Executed n) = done 5 n
+abbrev pub kind_number : Kind → ℕ
+kind_number Granted = 3
+kind_number Interrupted = 4
+kind_number Executed = 5
+
+abbrev pub step_report : Result Done Refusal → Report StepDone
+step_report (Err r) = refused (refusal_number r)
+step_report (Ok d) = done (kind_number d.kind) d.cycles
 
 -- no two answers are reported alike
 abbrev pub StepsApart : Type 0

@@ -1,9 +1,8 @@
 -- What holds of every step, on every machine, bus and lines unless premises are named.
-use Rattle.std.specs.Prelude.{ℕ, ◌%◌, ◌<◌, ◌≤◌, ◌≡◌, Bool, true, false, not, cond, List, [], ◌∷◌, leb, ltb, length}
+use Rattle.std.specs.Prelude.{ℕ, ◌%◌, ◌<◌, ◌≤◌, ◌≡◌, Bool, true, false, not, cond, List, [], ◌∷◌, leb, ltb, length, Some, Ok}
 use Rattle.refusal.specs.Report.{refused, answered}
 use Rattle.word.specs.Word.{wrap_add, signed}
 use Rattle.word.specs.ThroughCarry.{CarryRow, rlc_row, row_number, form_of, Gives}
-use Rattle.memory.specs.declared.Admission.TheVariants.{Admitted}
 use Rattle.memory.specs.declared.map.Range.{Range}
 use Rattle.memory.specs.declared.map.Board.{Board}
 use Rattle.memory.specs.Memory.{peek_of}
@@ -12,7 +11,6 @@ use Rattle.memory.specs.Near.{in_front, Near}
 use Rattle.memory.specs.Laws.{AgreeAt, BusWords, takes_store, OnBoard}
 use Rattle.decode.specs.declared.Instr.{Instr}
 use Rattle.decode.specs.declared.Instr.TheVariants.{Shift, Register, Branch, Read}
-use Rattle.decode.specs.declared.Decoded.TheVariants.{Known}
 use Rattle.decode.specs.declared.rows.Row.{Row}
 use Rattle.decode.specs.Fields.{mode_of, branch_target}
 use Rattle.decode.specs.Rows.{row_of}
@@ -115,9 +113,9 @@ pub record Sound (m : Machine) : Type 0 where
 
 -- the step goes by item 5, and makes this instruction
 pub record Executes (m : Machine) (b : Bus) (l : Lines) (i : Instr) : Type 0 where
-  pub admitted : admission_of b ≡ Admitted
+  pub admitted : admission_of b ≡ Ok tt
   pub plan : plan_of (noted m l) l ≡ Executing
-  pub instruction : decoded m b ≡ Known i
+  pub instruction : decoded m b ≡ Some i
 
 -- a branch from this machine and bus left this: "9 taken, 7 not", and R7 is the target or the address after its words
 pub record Branches (m : Machine) (b : Bus) (branch : ℕ) (taken : Bool) (left : Outcome) : Type 0 where

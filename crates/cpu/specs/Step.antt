@@ -1,7 +1,7 @@
 -- One step: document 01, "The board the step sees", its order 1 to 5.
-use Rattle.std.specs.Prelude.{false, not, cond, ◌&&◌, List, [], ◌++◌, map, ℕ}
+use Rattle.std.specs.Prelude.{false, not, cond, ◌&&◌, List, [], ◌++◌, map, ℕ, Option, None, Some}
 use Rattle.refusal.specs.declared.Refusal.{Refusal}
-use Rattle.refusal.specs.declared.Refusal.TheVariants.{Halted, Unspecified as UnspecifiedForm}
+use Rattle.refusal.specs.declared.Refusal.TheVariants.{Halted, Unspecified}
 use Rattle.refusal.specs.Refusals.{refusal_number}
 use Rattle.refusal.specs.Report.{Report, refused}
 use Rattle.word.specs.Word.{wrap_add}
@@ -10,8 +10,6 @@ use Rattle.memory.specs.declared.map.Board.{Board}
 use Rattle.memory.specs.Bus.{Bus, bus_on, read_of, Store, keep, put, stored, admission_of, unless_barred}
 use Rattle.memory.specs.Near.{near_of}
 use Rattle.decode.specs.declared.Instr.{Instr}
-use Rattle.decode.specs.declared.Decoded.{Decoded}
-use Rattle.decode.specs.declared.Decoded.TheVariants.{Unspecified, Known}
 use Rattle.decode.specs.declared.rows.Row.{Row}
 use Rattle.decode.specs.Decode.{decode_at}
 use Rattle.decode.specs.Rows.{row_of}
@@ -82,12 +80,12 @@ unfoldable pub executed : Machine → Bus → Lines → Instr → Action
 executed m b l i = executed_from m (execution_words m b i) l i
 
 -- refusal 3: "step meets an unspecified form"; given is the machine as it was given
-abbrev pub decoded_action : Decoded → Machine → Machine → Bus → Lines → Action
-decoded_action Unspecified given m b l = refused_step given UnspecifiedForm
-decoded_action (Known i) given m b l = executed m b l i
+abbrev pub decoded_action : Option Instr → Machine → Machine → Bus → Lines → Action
+decoded_action None given m b l = refused_step given Unspecified
+decoded_action (Some i) given m b l = executed m b l i
 
 -- the instruction at R7
-abbrev pub decoded : Machine → Bus → Decoded
+abbrev pub decoded : Machine → Bus → Option Instr
 decoded m b = decode_at (read_of b) (register 7 m) m.switches.d
 
 abbrev pub planned : Plan → Machine → Machine → Bus → Lines → Action
@@ -140,9 +138,9 @@ near_after b near m l = near_by (plan_of (noted m l) l) b near m
 
 -- The addresses that a step reads, in order: what decoding reads, then what the execution reads. A refusal before that, a grant and an interrupt read
 -- nothing; an unspecified form is told by what decoding reads.
-abbrev pub decoded_reads : Decoded → Machine → Bus → List ℕ
-decoded_reads Unspecified m b = []
-decoded_reads (Known i) m b =
+abbrev pub decoded_reads : Option Instr → Machine → Bus → List ℕ
+decoded_reads None m b = []
+decoded_reads (Some i) m b =
     execution_reads i m.switches.d (read_of b) (register 7 m) (begun (row_of i m.switches.d) m)
 
 abbrev pub planned_reads : Plan → Machine → Bus → List ℕ

@@ -11,9 +11,8 @@ ghost use Rattle.cpu.specs.Answer.{step_report, cycles_of, meets_unspecified};
 ghost use Rattle.cpu.specs.Step.{decoded_action, decoded, admitted_action, made, step_of, admitted_step, outcome, outcome_near, near_after};
 ghost use Rattle.cpu.specs.Inner.Parts.{machine_in, is_unspecified_form, stepped_of};
 
-use decode::Decoded;
 use memory::map::{Board, Range};
-use memory::{Admission, near};
+use memory::near;
 use refusal::Refusal;
 
 mod branch;
@@ -68,26 +67,33 @@ pub enum Plan {
     Executing,
 }
 
-// What a step did, with its cycles, or why it was refused. (Cycles of 64 bits make the answer too long to be packed into one number.)
+// What a step did, by the number of its item in document 01's order: the bus granted, an interrupt served, one instruction made.
 #[derive(Clone, Copy)]
-pub enum StepAnswer {
-    Refused(Refusal),
-    Granted { cycles: u64 },
-    Interrupted { cycles: u64 },
-    Executed { cycles: u64 },
+pub enum Kind {
+    Granted = 3,
+    Interrupted = 4,
+    Executed = 5,
 }
 
+// What a step did, and its cycles. (Cycles of 64 bits make the answer too long to be packed into one number.)
+#[derive(Clone, Copy)]
+pub struct Done {
+    pub kind: Kind,
+    pub cycles: u64,
+}
+
+// What a step left: the state, and what was done or why the step was refused.
 #[derive(Clone, Copy)]
 pub struct Stepped {
     pub state: State,
-    pub answer: StepAnswer,
+    pub answer: Result<Done, Refusal>,
 }
 
 // The same with the range at hand after it, in which the opcode stood: a run hands it to its next step.
 #[derive(Clone, Copy)]
 pub struct NearStep {
     pub state: State,
-    pub answer: StepAnswer,
+    pub answer: Result<Done, Refusal>,
     pub near: Range,
 }
 
@@ -95,7 +101,10 @@ pub struct NearStep {
 const RESET_ADDRESS: u16 = 0x1000;
 
 // A step that grants the bus.
-const GRANT_CYCLES: u64 = 1;
+const GRANT: Done = Done {
+    kind: Kind::Granted,
+    cycles: 1,
+};
 
 pub fn reset() -> State
     ensures { machine_of result ≡ reset_machine }
@@ -117,16 +126,18 @@ pub fn reset() -> State
     }
 }
 
-fn finished(registers: [u16; 8], status: Status, answer: StepAnswer, near: Range) -> NearStep
+fn finished(
+    registers: [u16; 8],
+    status: Status,
+    answer: Result<Done, Refusal>,
+    near: Range,
+) -> NearStep
     ensures { result ≡ stepped_of registers status answer near }
 {
     NearStep {
-        state: State {
-            registers: registers,
-            status: status,
-        },
-        answer: answer,
-        near: near,
+        state: State { registers, status },
+        answer,
+        near,
     }
 }
 
@@ -150,26 +161,17 @@ fn instruction(
     let near = fetched.near;
     let first = fetched.word;
     let read = decode::instruction(first % 1024);
-    let decoded = decode::specified_at(board, near, mem, pc, read, status.d);
-    let Decoded::Known(instr) = decoded else {
-        return finished(
-            registers,
-            before,
-            StepAnswer::Refused(Refusal::Unspecified),
-            near,
-        );
+    let Some(instr) = decode::specified_at(board, near, mem, pc, read, status.d) else {
+        return finished(registers, before, Err(Refusal::Unspecified), near);
     };
     let seen = registers::put_next(registers, word::wrapping_add(pc, 1));
     let change = execute::execute(&seen, status, board, near, mem, pc, lines.external, instr);
     let after = change.status;
-    finished(
-        registers::written(registers, change),
-        after,
-        StepAnswer::Executed {
-            cycles: change.cycles,
-        },
-        near,
-    )
+    let done = Done {
+        kind: Kind::Executed,
+        cycles: change.cycles,
+    };
+    finished(registers::written(registers, change), after, Ok(done), near)
 }
 
 // One step on a memory that was let in, in document 01's order. A run asks once and makes all its steps by this. It reads with a range at hand, which
@@ -189,20 +191,8 @@ pub fn admitted_step(
     let status = requests::noted(before, lines);
     let plan = requests::plan_of(status, lines);
     match plan {
-        Plan::Halting => finished(
-            registers,
-            before,
-            StepAnswer::Refused(Refusal::Halted),
-            near,
-        ),
-        Plan::Granting => finished(
-            registers,
-            status,
-            StepAnswer::Granted {
-                cycles: GRANT_CYCLES,
-            },
-            near,
-        ),
+        Plan::Halting => finished(registers, before, Err(Refusal::Halted), near),
+        Plan::Granting => finished(registers, status, Ok(GRANT), near),
         Plan::Interrupting => requests::interrupt(registers, status, board, near, mem),
         Plan::Executing => instruction(registers, before, status, board, near, mem, lines),
     }
@@ -212,45 +202,31 @@ pub fn admitted_step(
 pub fn step(state: State, board: Board, mem: &mut [u16], lines: Lines) -> Stepped
     ensures { outcome board result mem.new ≡ step_of (machine_of state) (bus_on board mem.old) lines }
 {
-    let admission = memory::admit(board, mem);
-    match admission {
-        Admission::Barred(refusal) => Stepped {
-            state: state,
-            answer: StepAnswer::Refused(refusal),
-        },
-        Admission::Admitted => {
-            let left = admitted_step(state, board, near::no_range(), mem, lines);
-            let after = left.state;
-            let answer = left.answer;
-            Stepped {
-                state: after,
-                answer: answer,
-            }
-        }
+    if let Err(refusal) = memory::admit(board, mem) {
+        return Stepped {
+            state,
+            answer: Err(refusal),
+        };
+    }
+    let left = admitted_step(state, board, near::no_range(), mem, lines);
+    Stepped {
+        state: left.state,
+        answer: left.answer,
     }
 }
 
 // The cycles that a step answers, and 0 for a refused one.
-pub fn cycles(answer: StepAnswer) -> u64
+pub fn cycles(answer: Result<Done, Refusal>) -> u64
     ensures { result ≡ cycles_of (step_report answer) }
 {
-    match answer {
-        StepAnswer::Refused(_) => 0,
-        StepAnswer::Granted { cycles } => cycles,
-        StepAnswer::Interrupted { cycles } => cycles,
-        StepAnswer::Executed { cycles } => cycles,
-    }
+    answer.map_or(0, |done| done.cycles)
 }
 
 // Whether an unspecified form stands at an address.
 fn is_unspecified_at(board: Board, near: Range, mem: &[u16], at: u16, double: bool) -> bool
     ensures { result ≡ is_unspecified_form (decode_at (read_of (bus_on (in_front near board) mem.now)) at double) }
 {
-    let decoded = decode::decode_at(board, near, mem, at, double);
-    match decoded {
-        Decoded::Unspecified => true,
-        Decoded::Known(_) => false,
-    }
+    decode::decode_at(board, near, mem, at, double).is_none()
 }
 
 // Whether a step from here would be refused for an unspecified form. Nothing is changed: a run looks so at the step that it does
@@ -271,13 +247,8 @@ pub fn is_unspecified_next(state: State, board: Board, mem: &[u16], lines: Lines
 }
 
 // Whether a step was refused.
-pub fn is_refused(answer: StepAnswer) -> bool
+pub fn is_refused(answer: Result<Done, Refusal>) -> bool
     ensures { result ≡ is_refused (step_report answer) }
 {
-    match answer {
-        StepAnswer::Refused(_) => true,
-        StepAnswer::Granted { .. } => false,
-        StepAnswer::Interrupted { .. } => false,
-        StepAnswer::Executed { .. } => false,
-    }
+    answer.is_err()
 }

@@ -11,8 +11,7 @@ use Rattle.word.proofs.Choice.{cond-true, cond-false, cond_either}
 use Rattle.memory.specs.Bus.{Bus, read_of}
 use Rattle.memory.specs.Laws.{AgreeAt}
 use Rattle.decode.specs.declared.Instr.{Instr}
-use Rattle.decode.specs.declared.Decoded.{Decoded}
-use Rattle.decode.specs.declared.Decoded.TheVariants.{Unspecified, Known}
+use Rattle.std.proofs.Common.{Option, None, Some}
 use Rattle.decode.specs.Fields.{opcode_of, field_s}
 use Rattle.decode.specs.Decode.{instruction_of, is_unspecified, unspecified_form, specified, decode_at, decode_words}
 use Rattle.decode.specs.Rows.{row_of}
@@ -20,7 +19,7 @@ use Rattle.decode.specs.Reads.{decoding_reads}
 use Rattle.decode.specs.Laws.{known, Decodes, DecodesInSteps, InRange, DecodesInRange, DecodingIsLocal}
 use Rattle.decode.proofs.OpcodeLaws.{opcodes-invert, OfEach, by-opcode, by-opcode-at}
 
-pub known_is : (t : Bool) (i k : Instr) → cond t Unspecified (Known k) ≡ Known i → k ≡ i
+pub known_is : (t : Bool) (i k : Instr) → cond t None (Some k) ≡ Some i → k ≡ i
 known_is true i k e = let z : ◌≡◌ {A = ℕ} 0 1 = cc in absurd (omega arith)
 known_is false i k e = cc
 
@@ -29,11 +28,11 @@ and-false true = refl
 and-false false = refl
 
 module _ (read : ℕ → ℕ) (at : ℕ) (double : Bool) where
-  pub decodes-unspecified : is_unspecified read at (opcode_of (read at)) double ≡ true → Decodes read at double Unspecified
+  pub decodes-unspecified : is_unspecified read at (opcode_of (read at)) double ≡ true → Decodes read at double None
   unfolding decode_at
   decodes-unspecified e = record { instruction = sym (cond-true _ _ e); tells = sym (cond-true _ _ e) }
 
-  pub decodes-known : is_unspecified read at (opcode_of (read at)) double ≡ false → Decodes read at double (Known (instruction_of (opcode_of (read at))))
+  pub decodes-known : is_unspecified read at (opcode_of (read at)) double ≡ false → Decodes read at double (Some (instruction_of (opcode_of (read at))))
   unfolding decode_at
   decodes-known e =
       let w : ℕ = opcode_of (read at) in
@@ -69,7 +68,7 @@ module _ (read : ℕ → ℕ) (at : ℕ) (double : Bool) where
   -- the instruction of the opcode and then its form, which is the decoding
   in-steps : specified read at (instruction_of (opcode_of (read at))) double ≡ decode_at read at double
   unfolding specified decode_at
-  in-steps = ap (λ (t : Bool). cond t Unspecified (Known (instruction_of (opcode_of (read at))))) (form-is (opcode_of (read at)) (omega arith))
+  in-steps = ap (λ (t : Bool). cond t None (Some (instruction_of (opcode_of (read at))))) (form-is (opcode_of (read at)) (omega arith))
 
   pub decodes : Decodes read at double (specified read at (instruction_of (opcode_of (read at))) double)
   unfolding specified
@@ -87,7 +86,7 @@ of_words : (read : ℕ → ℕ) (at : ℕ) → decode_words (read at) (read (wra
 unfolding decode_words decode_at is_unspecified
 of_words read at =
     let w : ℕ = opcode_of (read at) in
-    ap (λ (t : Bool). cond t Unspecified (Known (instruction_of w))) (clear-form (eqb w 0x004) (eqb (read (wrap_add at 1) % 4) 3))
+    ap (λ (t : Bool). cond t None (Some (instruction_of w))) (clear-form (eqb w 0x004) (eqb (read (wrap_add at 1) % 4) 3))
 
 pub decodes-in-steps : DecodesInSteps
 decodes-in-steps = record { forms = form-is; steps = in-steps; words = of_words }
@@ -131,7 +130,7 @@ pub decoding-is-local : DecodingIsLocal
 unfolding decoding_reads decode_at is_unspecified
 decoding-is-local b c at double h =
     let w : ℕ = opcode_of (read_of b at) in
-    let decoded : Bool → ℕ → Decoded = λ t n. cond t Unspecified (Known (instruction_of n)) in
+    let decoded : Bool → ℕ → Option Instr = λ t n. cond t None (Some (instruction_of n)) in
     let stack : ℕ → Bool = λ n. double && (leb 0x280 n && eqb (field_s n) 6) in
     ap (λ (t : Bool). decoded t w) (jump-second (λ x. eqb (x % 4) 3) w (read_of b (wrap_add at 1)) (read_of c (wrap_add at 1)) (stack w) (second-agrees b c at (eqb w 0x004) h.1))
     ∙ ap (λ (v : ℕ). decoded (cond (eqb (opcode_of v) 0x004) (eqb (read_of c (wrap_add at 1) % 4) 3) (stack (opcode_of v))) (opcode_of v)) h.0

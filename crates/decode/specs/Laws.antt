@@ -1,12 +1,10 @@
 -- What holds of the decoder and of every row of the table.
-use Rattle.std.specs.Prelude.{ℕ, ◌<◌, ◌≤◌, ◌≡◌, Bool, false, cond, List, ◌++◌}
+use Rattle.std.specs.Prelude.{ℕ, ◌<◌, ◌≤◌, ◌≡◌, Bool, false, cond, List, ◌++◌, Option, None, Some}
 use Rattle.word.specs.Word.{wrap_add}
 use Rattle.memory.specs.Bus.{Bus, read_of}
 use Rattle.memory.specs.Laws.{AgreeAt}
 use Rattle.decode.specs.declared.Instr.{Instr}
 use Rattle.decode.specs.declared.Instr.TheVariants.{Hlt, Control, Jump, Single, Gswd, Nop, Sin, Shift, Register, Branch, Store, Read}
-use Rattle.decode.specs.declared.Decoded.{Decoded}
-use Rattle.decode.specs.declared.Decoded.TheVariants.{Unspecified, Known}
 use Rattle.decode.specs.declared.rows.Row.{Row}
 use Rattle.decode.specs.Fields.{opcode_of}
 use Rattle.decode.specs.Decode.{instruction_of, opcode_for, is_unspecified, unspecified_form, specified, decode_at, decode_words}
@@ -18,9 +16,9 @@ pub data Told : Type 0 where
   unspecified : Told
   known : ℕ → Row → Told
 
-abbrev pub told_of : Bool → Decoded → Told
-told_of double Unspecified = unspecified
-told_of double (Known i) = known (opcode_for i) (row_of i double)
+abbrev pub told_of : Bool → Option Instr → Told
+told_of double None = unspecified
+told_of double (Some i) = known (opcode_for i) (row_of i double)
 
 abbrev pub told_at : (ℕ → ℕ) → ℕ → Bool → Told
 told_at read at double =
@@ -28,7 +26,7 @@ told_at read at double =
     (known (opcode_of (read at)) (row_of (instruction_of (opcode_of (read at))) double))
 
 -- what the decoder answers: the instruction there, and so the opcode that stands there with its row
-pub record Decodes (read : ℕ → ℕ) (at : ℕ) (double : Bool) (r : Decoded) : Type 0 where
+pub record Decodes (read : ℕ → ℕ) (at : ℕ) (double : Bool) (r : Option Instr) : Type 0 where
   pub instruction : r ≡ decode_at read at double
   pub tells : told_of double r ≡ told_at read at double
 
@@ -59,7 +57,7 @@ InRange (Read row s d) = (10 ≤ row) × (row < 16) × (s < 8) × (d < 8)
 
 -- .. so it is of every instruction that is decoded
 abbrev pub DecodesInRange : Type 0
-DecodesInRange = (read : ℕ → ℕ) (at : ℕ) (double : Bool) (i : Instr) → decode_at read at double ≡ Known i → InRange i
+DecodesInRange = (read : ℕ → ℕ) (at : ℕ) (double : Bool) (i : Instr) → decode_at read at double ≡ Some i → InRange i
 
 -- every row costs 4 to 12 cycles and has 1 to 3 words
 pub record RowBounds : Type 0 where
@@ -84,5 +82,5 @@ pub record Begins (xs ys : List ℕ) : Type 0 where
 abbrev pub DecodingReadsOwnWords : Type 0
 DecodingReadsOwnWords =
     (read : ℕ → ℕ) (at : ℕ) (double : Bool) (i : Instr) →
-    decode_at read at double ≡ Known i →
+    decode_at read at double ≡ Some i →
     Begins (decoding_reads read at) (own_words at (row_of i double).words)

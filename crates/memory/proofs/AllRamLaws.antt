@@ -8,9 +8,8 @@ use lib.Dec.{leb}
 use lib.ListN.{length, get_or-eq_default}
 use lib.Seq.{set_out}
 use borrow.Author.Tests.{leb-false, le-leb}
-use Rattle.memory.specs.declared.Admission.TheVariants.{Admitted}
 use Rattle.memory.specs.declared.map.Board.{Board}
-use Rattle.memory.specs.declared.map.Found.TheVariants.{Nowhere, In}
+use Rattle.std.specs.Prelude.{Ok, None, Some}
 use Rattle.memory.specs.Memory.{peek_of, poke_of}
 use Rattle.memory.specs.Map.{holds, cell_in, ram16, empty, cell_at, read_as, store_as, bad_map, whole_ram, all_ram}
 use Rattle.memory.specs.Bus.{bus_of, on_board, bus_on, read_of, store_of, admission_of}
@@ -18,7 +17,7 @@ use Rattle.memory.specs.Laws.{AllRam, AllRamLaws}
 use Rattle.memory.proofs.BusLaws.{let-in}
 
 -- the one range of an all-RAM map decides by its last address alone
-cell-by : (t : Bool) → cell_in (cond t (In whole_ram) Nowhere) ≡ cond t ram16 empty
+cell-by : (t : Bool) → cell_in (cond t (Some whole_ram) None) ≡ cond t ram16 empty
 cell-by true = refl
 cell-by false = refl
 
@@ -48,7 +47,7 @@ read_at : (b : Board) (m : List ℕ) → AllRam b → length m ≤ 65536 → (a 
 unfolding read_of
 read_at b m h n a = rw (decided b h a) (read_by m a (leb a 0xFFFF) refl n)
 
-stores : (b : Board) (m : List ℕ) → AllRam b → admission_of (bus_of m) ≡ Admitted → (a w : ℕ) → store_of (bus_on b m) a w ≡ on_board b (store_of (bus_of m) a w)
+stores : (b : Board) (m : List ℕ) → AllRam b → admission_of (bus_of m) ≡ Ok tt → (a w : ℕ) → store_of (bus_on b m) a w ≡ on_board b (store_of (bus_of m) a w)
 unfolding store_of
 stores b m h e a w = ap (bus_on b) (rw (decided b h a) (store_by m a w (leb a 0xFFFF) refl (let-in m e)))
 

@@ -9,8 +9,7 @@ use lib.ListN.{length, get_or}
 use borrow.Author.Tests.{le-ltb, ltb-false}
 use Rattle.refusal.specs.declared.Refusal.{Refusal}
 use Rattle.refusal.specs.declared.Refusal.TheVariants.{MemoryTooLong}
-use Rattle.memory.specs.declared.Admission.{Admission}
-use Rattle.memory.specs.declared.Admission.TheVariants.{Admitted, Barred}
+use Rattle.std.specs.Prelude.{Result, Ok, Err}
 use Rattle.memory.specs.declared.map.Board.{Board}
 use Rattle.memory.specs.Memory.{peek_of}
 use Rattle.memory.specs.Map.{Cell, rom, ram16, ram8, empty, cell_at, read_as, store_as}
@@ -90,8 +89,8 @@ bus-laws =
           (λ b m a w e. ap (bus_on b) (store-as-untaken (cell_at b a) m a w e));
       keeps_admission =
           by-access (λ (s : Bus). (a w : ℕ) → admission_of (store_of s a w) ≡ admission_of s)
-          (λ m a w. ap (λ (n : ℕ). cond (ltb 65536 n) (Barred MemoryTooLong) Admitted) (poke-laws.keeps_length m a w))
-          (λ b m a w. ap (λ (n : ℕ). cond (ltb 65536 n) (Barred MemoryTooLong) (map_admission (mapped b))) (store-as-length (cell_at b a) m a w));
+          (λ m a w. ap (λ (n : ℕ). cond (ltb 65536 n) (Err MemoryTooLong) (Ok tt)) (poke-laws.keeps_length m a w))
+          (λ b m a w. ap (λ (n : ℕ). cond (ltb 65536 n) (Err MemoryTooLong) (map_admission (mapped b))) (store-as-length (cell_at b a) m a w));
       keeps_words =
           by-access (λ (s : Bus). (a w : ℕ) → BusWords s → w < 65536 → BusWords (store_of s a w))
           (λ m a w h k. poke-laws.keeps_words m a w h k)
@@ -104,15 +103,15 @@ unfolding read_of peek_of
 read-within m a h = get_d-within m a 0xFFFF 0 h
 
 -- a run that no address exceeds is let in, and who is let in has no longer one
-pub lets_in : (m : List ℕ) → length m ≤ 65536 → admission_of (bus_of m) ≡ Admitted
+pub lets_in : (m : List ℕ) → length m ≤ 65536 → admission_of (bus_of m) ≡ Ok tt
 unfolding admission_of
 lets_in m h = rw (le-ltb 65536 (length m) h)
 
-pub let-in : (m : List ℕ) → admission_of (bus_of m) ≡ Admitted → length m ≤ 65536
+pub let-in : (m : List ℕ) → admission_of (bus_of m) ≡ Ok tt → length m ≤ 65536
 unfolding admission_of
 let-in m e = by_length (ltb 65536 (length m)) refl e
   where
-    by_length : (t : Bool) → ltb 65536 (length m) ≡ t → cond t (Barred MemoryTooLong) Admitted ≡ Admitted → length m ≤ 65536
+    by_length : (t : Bool) → ltb 65536 (length m) ≡ t → cond t (Err MemoryTooLong) (Ok (tt {0})) ≡ Ok (tt {0}) → length m ≤ 65536
     by_length true h k = let z : ◌≡◌ {A = ℕ} 0 1 = cc in absurd (omega arith)
     by_length false h k = ltb-false 65536 (length m) h
 
@@ -131,12 +130,12 @@ agree-through [] a b c p q = tt
 agree-through (x ∷ xs) a b c p q = (p.0 ∙ q.0, agree-through xs a b c p.1 q.1)
 
 -- what holds of every refusal and of what is let in holds of the outcome
-pub unless-both : {A : Type 0} (P : A → Type 0) (a : Admission) {refuse : Refusal → A} {x : A} → ((r : Refusal) → P (refuse r)) → P x → P (unless_barred a refuse x)
-unless-both P Admitted p q = q
-unless-both P (Barred r) p q = p r
+pub unless-both : {A : Type 0} (P : A → Type 0) (a : Result (Unit {0}) Refusal) {refuse : Refusal → A} {x : A} → ((r : Refusal) → P (refuse r)) → P x → P (unless_barred a refuse x)
+unless-both P (Ok u) p q = q
+unless-both P (Err r) p q = p r
 
-pub unless-in : {A : Type 0} {a : Admission} (refuse : Refusal → A) (x : A) → a ≡ Admitted → unless_barred a refuse x ≡ x
+pub unless-in : {A : Type 0} {a : Result (Unit {0}) Refusal} (refuse : Refusal → A) (x : A) → a ≡ Ok tt → unless_barred a refuse x ≡ x
 unless-in refuse x e = ap (λ t. unless_barred t refuse x) e
 
-pub unless-out : {A : Type 0} {a : Admission} {r : Refusal} (refuse : Refusal → A) (x : A) → a ≡ Barred r → unless_barred a refuse x ≡ refuse r
+pub unless-out : {A : Type 0} {a : Result (Unit {0}) Refusal} {r : Refusal} (refuse : Refusal → A) (x : A) → a ≡ Err r → unless_barred a refuse x ≡ refuse r
 unless-out refuse x e = ap (λ t. unless_barred t refuse x) e

@@ -10,7 +10,7 @@ use lib.Seq.{take_all}
 use borrow.Author.Tests.{le-ltb, leb-false}
 use Rattle.memory.specs.declared.map.Range.{Range}
 use Rattle.memory.specs.declared.map.Board.{Board}
-use Rattle.memory.specs.declared.map.Found.TheVariants.{Nowhere, In}
+use Rattle.std.specs.Prelude.{None, Some}
 use Rattle.memory.specs.Map.{holds, listed_in, deciding, any_reversed, bad_map}
 use Rattle.memory.proofs.Parts.{next, none_left}
 
@@ -24,13 +24,13 @@ listed-takes n l h = go (leb n 16) refl
     go false e = take_all 16 l (omega arith) ∙ sym (take_all n l (omega (arith, leb-false n 16 e)))
 
 module _ (l : List Range) (n : ℕ) (fits : n ≤ length l) (a : ℕ) where
-  pub hit : (i : ℕ) (d : Range) → i < n → holds (get_or l i d) a ≡ true → deciding (drop i (take n l)) a ≡ In (get_or l i d)
+  pub hit : (i : ℕ) (d : Range) → i < n → holds (get_or l i d) a ≡ true → deciding (drop i (take n l)) a ≡ Some (get_or l i d)
   hit i d h e = rw (next l n fits i d h, e)
 
   pub miss : (i : ℕ) (d : Range) → i < n → holds (get_or l i d) a ≡ false → deciding (drop i (take n l)) a ≡ deciding (drop (i + 1) (take n l)) a
   miss i d h e = rw (next l n fits i d h, e)
 
-  pub past : (i : ℕ) → i ≡ n → deciding (drop i (take n l)) a ≡ Nowhere
+  pub past : (i : ℕ) → i ≡ n → deciding (drop i (take n l)) a ≡ None
   past i e = rw (none_left l n fits i e)
 
 module _ (l : List Range) (n : ℕ) (fits : n ≤ length l) where

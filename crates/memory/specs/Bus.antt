@@ -1,9 +1,7 @@
 -- What a step sees as memory: the lent words, and how they are reached. Nothing above this crate opens a bus; all use the laws of `Laws`.
-use Rattle.std.specs.Prelude.{ℕ, cond, List}
+use Rattle.std.specs.Prelude.{ℕ, cond, List, Result, Ok, Err}
 use Rattle.refusal.specs.declared.Refusal.{Refusal}
 use Rattle.refusal.specs.declared.Refusal.TheVariants.{MemoryTooLong, BadMap}
-use Rattle.memory.specs.declared.Admission.{Admission}
-use Rattle.memory.specs.declared.Admission.TheVariants.{Admitted, Barred}
 use Rattle.memory.specs.declared.map.Board.{Board}
 use Rattle.memory.specs.Memory.{peek_of, poke_of, too_long}
 use Rattle.memory.specs.Map.{cell_at, read_as, store_as, bad_map}
@@ -55,14 +53,14 @@ stored b keep = b
 stored b (put a w) = store_of b a w
 
 -- whether a call is let in: refusals 1 and 14, which no step can change; 14 is "directly after 1 in every call that takes a map"
-abbrev pub map_admission : Access → Admission
-map_admission plain = Admitted
-map_admission (mapped b) = cond (bad_map b) (Barred BadMap) Admitted
+abbrev pub map_admission : Access → Result (Unit {0}) Refusal
+map_admission plain = Ok tt
+map_admission (mapped b) = cond (bad_map b) (Err BadMap) (Ok tt)
 
-unfoldable pub admission_of : Bus → Admission
-admission_of s = cond (too_long s.words) (Barred MemoryTooLong) (map_admission s.access)
+unfoldable pub admission_of : Bus → Result (Unit {0}) Refusal
+admission_of s = cond (too_long s.words) (Err MemoryTooLong) (map_admission s.access)
 
 -- a call's outcome: refused at the door, or what it does once it is in
-abbrev pub unless_barred : {A : Type 0} → Admission → (Refusal → A) → A → A
-unless_barred Admitted refuse x = x
-unless_barred (Barred r) refuse x = refuse r
+abbrev pub unless_barred : {A : Type 0} → Result (Unit {0}) Refusal → (Refusal → A) → A → A
+unless_barred (Ok u) refuse x = x
+unless_barred (Err r) refuse x = refuse r

@@ -1,8 +1,7 @@
 -- What holds of reads and stores, of the lent words and of a bus.
-use Rattle.std.specs.Prelude.{ℕ, ◌%◌, ◌<◌, ◌≤◌, ◌≡◌, Bool, true, false, ◌&&◌, List, [], ◌∷◌, ltb, length}
+use Rattle.std.specs.Prelude.{ℕ, ◌%◌, ◌<◌, ◌≤◌, ◌≡◌, Bool, true, false, ◌&&◌, List, [], ◌∷◌, ltb, length, Ok, Err}
 use Rattle.refusal.specs.Report.{OneToOne}
 use Rattle.refusal.specs.declared.Refusal.TheVariants.{MemoryTooLong, BadMap}
-use Rattle.memory.specs.declared.Admission.TheVariants.{Admitted, Barred}
 use Rattle.memory.specs.declared.map.Range.{Range}
 use Rattle.memory.specs.declared.map.Board.{Board}
 use Rattle.memory.specs.Memory.{peek_of, poke_of, too_long}
@@ -62,9 +61,9 @@ pub record BusLaws : Type 0 where
 
 -- who is let in, in the order in which it is asked: 1, and 14 "directly after 1 in every call that takes a map"
 pub record AdmissionLaws : Type 0 where
-  pub length_first : (b : Board) (m : List ℕ) → too_long m ≡ true → admission_of (bus_on b m) ≡ Barred MemoryTooLong
-  pub map_after : (b : Board) (m : List ℕ) → too_long m ≡ false → bad_map b ≡ true → admission_of (bus_on b m) ≡ Barred BadMap
-  pub lets_in : (b : Board) (m : List ℕ) → too_long m ≡ false → bad_map b ≡ false → admission_of (bus_on b m) ≡ Admitted
+  pub length_first : (b : Board) (m : List ℕ) → too_long m ≡ true → admission_of (bus_on b m) ≡ Err MemoryTooLong
+  pub map_after : (b : Board) (m : List ℕ) → too_long m ≡ false → bad_map b ≡ true → admission_of (bus_on b m) ≡ Err BadMap
+  pub lets_in : (b : Board) (m : List ℕ) → too_long m ≡ false → bad_map b ≡ false → admission_of (bus_on b m) ≡ Ok tt
 
 -- a bus on a board, and what a store to it leaves: the lent words after it, of which at most the one stored to is another
 pub record OnBoard (b : Board) (s : Bus) : Type 0 where
@@ -107,10 +106,10 @@ pub record AllRam (b : Board) : Type 0 where
 pub record AllRamLaws : Type 0 where
   pub made : AllRam all_ram
   pub admits : (b : Board) (m : List ℕ) → AllRam b → admission_of (bus_on b m) ≡ admission_of (bus_of m)
-  pub reads : (b : Board) (m : List ℕ) → AllRam b → admission_of (bus_of m) ≡ Admitted → read_of (bus_on b m) ≡ read_of (bus_of m)
+  pub reads : (b : Board) (m : List ℕ) → AllRam b → admission_of (bus_of m) ≡ Ok tt → read_of (bus_on b m) ≡ read_of (bus_of m)
   pub stores :
       (b : Board) (m : List ℕ) →
       AllRam b →
-      admission_of (bus_of m) ≡ Admitted →
+      admission_of (bus_of m) ≡ Ok tt →
       (a w : ℕ) →
       store_of (bus_on b m) a w ≡ on_board b (store_of (bus_of m) a w)

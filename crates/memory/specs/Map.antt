@@ -1,12 +1,10 @@
 -- Document 02, [1]: "a board map beside the memory: up to 16 ranges, each ROM, 16-bit RAM or 8-bit RAM, first match deciding, unmatched words
 -- empty."
-use Rattle.std.specs.Prelude.{ℕ, ◌%◌, Bool, false, cond, ◌&&◌, ◌||◌, List, [], ◌∷◌, leb, ltb, take, replicate}
+use Rattle.std.specs.Prelude.{ℕ, ◌%◌, Bool, false, cond, ◌&&◌, ◌||◌, List, [], ◌∷◌, leb, ltb, take, replicate, Option, None, Some}
 use Rattle.memory.specs.declared.map.Kind.{Kind}
 use Rattle.memory.specs.declared.map.Kind.TheVariants.{Rom, Ram16, Ram8}
 use Rattle.memory.specs.declared.map.Range.{Range}
 use Rattle.memory.specs.declared.map.Board.{Board}
-use Rattle.memory.specs.declared.map.Found.{Found}
-use Rattle.memory.specs.declared.map.Found.TheVariants.{Nowhere, In}
 use Rattle.memory.specs.Memory.{peek_of, poke_of}
 
 -- a range holds the addresses from its first to its last
@@ -25,9 +23,9 @@ abbrev pub ranges_of : Board → List Range
 ranges_of b = take b.count b.ranges
 
 -- "first match deciding"
-abbrev pub deciding : List Range → ℕ → Found
-deciding [] a = Nowhere
-deciding (r ∷ rest) a = cond (holds r a) (In r) (deciding rest a)
+abbrev pub deciding : List Range → ℕ → Option Range
+deciding [] a = None
+deciding (r ∷ rest) a = cond (holds r a) (Some r) (deciding rest a)
 
 -- what a word of the memory is
 pub data Cell : Type 0 where
@@ -43,9 +41,9 @@ cell_of Ram16 = ram16
 cell_of Ram8 = ram8
 
 -- "unmatched words empty"
-abbrev pub cell_in : Found → Cell
-cell_in Nowhere = empty
-cell_in (In r) = cell_of r.kind
+abbrev pub cell_in : Option Range → Cell
+cell_in None = empty
+cell_in (Some r) = cell_of r.kind
 
 -- what the word at an address is
 unfoldable pub cell_at : Board → ℕ → Cell

@@ -1,11 +1,9 @@
 -- A range at hand, so that the map is not searched for each word of an instruction. Reads ask whether any range holds an address; which one decides
 -- counts for stores alone. So a range at hand is one put in front of the map, for reads.
-use Rattle.std.specs.Prelude.{ℕ, suc, ◌≡◌, Bool, true, false, cond, ◌∷◌}
+use Rattle.std.specs.Prelude.{ℕ, suc, ◌≡◌, Bool, true, false, cond, ◌∷◌, Option, None, Some}
 use Rattle.memory.specs.declared.map.Kind.TheVariants.{Rom}
 use Rattle.memory.specs.declared.map.Range.{Range}
 use Rattle.memory.specs.declared.map.Board.{Board}
-use Rattle.memory.specs.declared.map.Found.{Found}
-use Rattle.memory.specs.declared.map.Found.TheVariants.{Nowhere, In}
 use Rattle.memory.specs.Map.{holds, ranges_of, deciding, Cell, rom, ram16, ram8, empty, cell_at}
 
 -- the board with a range at hand in front of its map
@@ -16,9 +14,9 @@ in_front near b = record { ranges = near ∷ b.ranges; count = suc b.count }
 unfoldable pub no_range : Range
 no_range = record { first = 1; last = 0; kind = Rom }
 
-abbrev pub range_in : Found → Range
-range_in Nowhere = no_range
-range_in (In r) = r
+abbrev pub range_in : Option Range → Range
+range_in None = no_range
+range_in (Some r) = r
 
 -- the range at hand after an address was looked up: the old one while it holds the address, else the one that decides there
 unfoldable pub near_of : Board → Range → ℕ → Range

@@ -8,12 +8,12 @@ use lib.Dec.{ltb, leb}
 use lib.ListN.{length, drop, length-take, length-drop}
 use lib.Seq.{get_or-take, get_or-drop}
 use borrow.Author.Tests.{ltb-false, leb-true, le-leb}
+use Rattle.refusal.specs.declared.Refusal.{Refusal}
 use Rattle.refusal.specs.declared.Refusal.TheVariants.{MemoryTooLong, FirstAboveLast, PastMemory}
 use Rattle.refusal.specs.Report.{answered}
 use Rattle.refusal.proofs.ReportLaws.{no_answer, same_answer, same-refusal}
-use Rattle.memory.specs.declared.Admission.TheVariants.{Admitted, Barred}
 use Rattle.memory.specs.Memory.{peek_of, too_long}
-use Rattle.records.specs.declared.LoadAnswer.TheVariants.{Refused, Loaded}
+use Rattle.std.specs.Prelude.{Ok, Err}
 use Rattle.records.specs.Records.{is_within, overwrite}
 use Rattle.records.specs.Region.{span_of, words_between, region_admission}
 use Rattle.records.specs.Loading.{LoadAnswersApart, Loading, refuse_load, LoadedAlike, PutBack}
@@ -21,10 +21,10 @@ use Rattle.records.specs.Laws.{LayingsAlike}
 use Rattle.records.proofs.OverLaws.{overwrite-length, read-inside, read_below, read_above}
 
 pub load-answers-apart : LoadAnswersApart
-load-answers-apart (Refused a) (Refused b) e = ap Refused (same-refusal a b e)
-load-answers-apart (Refused a) (Loaded b) e = no_answer e
-load-answers-apart (Loaded a) (Refused b) e = no_answer (sym e)
-load-answers-apart (Loaded a) (Loaded b) e = ap Loaded (same_answer e)
+load-answers-apart (Err a) (Err b) e = ap Err (same-refusal a b e)
+load-answers-apart (Err a) (Ok b) e = no_answer e
+load-answers-apart (Ok a) (Err b) e = no_answer (sym e)
+load-answers-apart (Ok a) (Ok b) e = ap Ok (same_answer e)
 
 pub layings-alike : LayingsAlike
 layings-alike j k n a ws = go (too_long n) (is_within (length n) a (length ws))
@@ -48,15 +48,15 @@ pub record Region (m : List ℕ) (first last : ℕ) : Type 0 where
   pub ordered : first ≤ last
   pub within : last < length m
 
-barred-not : {A : Type 0} {r : _} → Barred r ≡ Admitted → A
+barred-not : {A : Type 0} {r : Refusal} → Err r ≡ Ok (tt {0}) → A
 barred-not e = let z : ◌≡◌ {A = ℕ} 0 1 = cc in absurd (omega arith)
 
-pub admitted-region : (m : List ℕ) (first last : ℕ) → region_admission m first last ≡ Admitted → Region m first last
+pub admitted-region : (m : List ℕ) (first last : ℕ) → region_admission m first last ≡ Ok (tt {0}) → Region m first last
 unfolding region_admission
 admitted-region m first last = go (too_long m) (ltb last first) (is_within (length m) first (span_of first last)) refl refl refl
   where
     go : (u v w : Bool) → too_long m ≡ u → ltb last first ≡ v → is_within (length m) first (span_of first last) ≡ w
-        → cond u (Barred MemoryTooLong) (cond v (Barred FirstAboveLast) (cond w Admitted (Barred PastMemory))) ≡ Admitted → Region m first last
+        → cond u (Err MemoryTooLong) (cond v (Err FirstAboveLast) (cond w (Ok tt) (Err PastMemory))) ≡ Ok (tt {0}) → Region m first last
     go true v w a b c e = barred-not e
     go false true w a b c e = barred-not e
     go false false false a b c e = barred-not e

@@ -1,18 +1,16 @@
 -- What a loading answers and leaves, whatever the form of its file.
-use Rattle.std.specs.Prelude.{ℕ, ◌≤◌, ◌<◌, ◌≡◌, cond, ◌⊎◌, List, length}
+use Rattle.std.specs.Prelude.{ℕ, ◌≤◌, ◌<◌, ◌≡◌, cond, ◌⊎◌, List, length, Result, Ok, Err}
 use Rattle.refusal.specs.declared.Refusal.{Refusal}
 use Rattle.refusal.specs.declared.Refusal.TheVariants.{MemoryTooLong, PastMemory}
 use Rattle.refusal.specs.Refusals.{refusal_number}
 use Rattle.refusal.specs.Report.{Report, refused, answered, OneToOne}
 use Rattle.memory.specs.Memory.{peek_of, too_long}
-use Rattle.records.specs.declared.LoadAnswer.{LoadAnswer}
-use Rattle.records.specs.declared.LoadAnswer.TheVariants.{Refused, Loaded}
 use Rattle.records.specs.Records.{Record, is_within, overwrite, placed}
 
 -- "The loader answers the number of records"; of a pair "the answer is the number of mapping lines"
-abbrev pub load_reported : LoadAnswer → Report ℕ
-load_reported (Refused r) = refused (refusal_number r)
-load_reported (Loaded records) = answered records
+abbrev pub load_reported : Result ℕ Refusal → Report ℕ
+load_reported (Err r) = refused (refusal_number r)
+load_reported (Ok records) = answered records
 
 -- no two answers are reported alike
 abbrev pub LoadAnswersApart : Type 0
@@ -32,7 +30,7 @@ abbrev pub accept_load : List ℕ → List Record → Loading
 accept_load m rs = record { answer = answered (length rs); memory = placed m rs }
 
 -- the outcome that the code's answer and the memory at its return stand for
-abbrev pub loaded : LoadAnswer → List ℕ → Loading
+abbrev pub loaded : Result ℕ Refusal → List ℕ → Loading
 loaded r m = record { answer = load_reported r; memory = m }
 
 -- what can come of a loading into m: a refusal, and every word is as it was; or an answer, of at most so many records

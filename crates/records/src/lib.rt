@@ -6,15 +6,7 @@ ghost use Rattle.std.specs.Prelude.{◌≡◌};
 ghost use Rattle.records.specs.Records.{is_within};
 ghost use Rattle.records.specs.Region.{region_admission};
 
-use memory::Admission;
 use refusal::Refusal;
-
-// How many records were put into memory, or why none was.
-#[derive(Clone, Copy)]
-pub enum LoadAnswer {
-    Refused(Refusal),
-    Loaded(usize),
-}
 
 // Whether so many words from an address on lie within a memory of `size` words. No address wraps.
 pub fn is_within(size: usize, address: u16, count: u32) -> bool
@@ -24,21 +16,19 @@ pub fn is_within(size: usize, address: u16, count: u32) -> bool
 }
 
 // Whether the words from `first` to `last` of a memory can be written, or why not.
-pub fn admit_region(mem: &[u16], first: u16, last: u16) -> Admission
+pub fn admit_region(mem: &[u16], first: u16, last: u16) -> Result<(), Refusal>
     ensures { result ≡ region_admission mem.now first last }
 {
-    let long = memory::is_too_long(mem);
-    if long {
-        return Admission::Barred(Refusal::MemoryTooLong);
+    if memory::is_too_long(mem) {
+        return Err(Refusal::MemoryTooLong);
     }
     if last < first {
-        return Admission::Barred(Refusal::FirstAboveLast);
+        return Err(Refusal::FirstAboveLast);
     }
     // the last word lies within, and so does the whole region
-    let within = is_within(mem.len(), last, 1);
-    if within {
-        Admission::Admitted
+    if is_within(mem.len(), last, 1) {
+        Ok(())
     } else {
-        Admission::Barred(Refusal::PastMemory)
+        Err(Refusal::PastMemory)
     }
 }

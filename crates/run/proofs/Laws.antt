@@ -3,9 +3,9 @@ use Prim.Native.Nat.{ℕ, zero, suc, ◌+◌, ◌≤◌, ◌<◌}
 use mathlib.Core.Path.{◌≡◌, refl, ap, ap₂, sym, subst, ◌∙◌}
 use mathlib.Core.Bool.{Bool, true, false, true≢false, false≢true}
 use native.Mathlib.Omega.{arith}
+use Rattle.std.proofs.Common.{Ok, Err}
 use Rattle.refusal.specs.Report.{Report, refused, answered, is_refused, UnlessRefused}
 use Rattle.refusal.proofs.ReportLaws.{no_answer, same_answer, same-refusal}
-use Rattle.memory.specs.declared.Admission.TheVariants.{Admitted}
 use Rattle.memory.specs.Bus.{Bus, admission_of}
 use Rattle.cpu.specs.declared.Lines.{Lines}
 use Rattle.cpu.specs.Machine.{Machine}
@@ -14,8 +14,8 @@ use Rattle.cpu.specs.Step.{Outcome, step_of, admitted_step}
 use Rattle.cpu.specs.Steps.{steps_from, last_machine, last_bus, cycles_of_all, Unrefused}
 use Rattle.cpu.proofs.ActionLaws.{step-admitted, step-charged, cycles-most}
 use Rattle.run.specs.declared.Cause.{Cause}
+use Rattle.run.specs.declared.Ended.{Ended}
 use Rattle.run.specs.declared.Cause.TheVariants.{Halted, Unspecified, Budget}
-use Rattle.run.specs.declared.RunAnswer.TheVariants.{Refused, Ended}
 use Rattle.run.specs.Run.{cause_number, RunDone, RunsApart, RunOutcome, refused_run, cause_of, finish, run_from, run_on}
 use Rattle.run.specs.Laws.{repeated, Made, SumFixesSteps, MakesItsSteps, CyclesBelow, CauseSays, CauseIsRight, BudgetIsSpent, NoBudgetNoChange}
 use Rattle.run.proofs.RunLaws.{answered-charged, ends-halted, ends-unspecified, ends-budget, Rests, budget_spent, machine_halted, form_unspecified, rests, by-turns, by-run}
@@ -33,12 +33,12 @@ record Runs (l : Lines) (m : Machine) (b : Bus) (steps cycles : ℕ) (o : RunOut
   unrefused : Unrefused (steps_from m b (repeated more l))
   machine : o.machine ≡ last_machine m (steps_from m b (repeated more l))
   bus : o.bus ≡ last_bus b (steps_from m b (repeated more l))
-  admitted : admission_of o.bus ≡ Admitted
+  admitted : admission_of o.bus ≡ Ok tt
 
 same-done : {steps steps' cycles cycles' : ℕ} (cause : ℕ) → steps ≡ steps' → cycles ≡ cycles' → ◌≡◌ {A = Report RunDone} (answered (record { steps = steps; cycles = cycles; cause = cause })) (answered (record { steps = steps'; cycles = cycles'; cause = cause }))
 same-done cause p q = ap₂ (λ (s c : ℕ). answered (record { steps = s; cycles = c; cause = cause })) p q
 
-no_more : (l : Lines) (m : Machine) (b : Bus) (steps cycles : ℕ) → admission_of b ≡ Admitted → Runs l m b steps cycles (finish m b l steps cycles)
+no_more : (l : Lines) (m : Machine) (b : Bus) (steps cycles : ℕ) → admission_of b ≡ Ok tt → Runs l m b steps cycles (finish m b l steps cycles)
 unfolding finish repeated steps_from cycles_of_all last_machine last_bus Unrefused
 no_more l m b steps cycles s =
     record { more = 0; answer = same-done _ (omega arith) (omega arith); unrefused = tt; machine = refl; bus = refl; admitted = s }
@@ -60,7 +60,7 @@ one_more l m b steps cycles o h r =
       admitted = r.admitted;
     }
 
-runs : (m : Machine) (b : Bus) (l : Lines) (budget : ℕ) → admission_of b ≡ Admitted → Runs l m b 0 0 (run_on m b l budget 0 0)
+runs : (m : Machine) (b : Bus) (l : Lines) (budget : ℕ) → admission_of b ≡ Ok tt → Runs l m b 0 0 (run_on m b l budget 0 0)
 runs m b l budget s =
     by-turns l budget (Runs l)
     (λ m b steps cycles s e. no_more l m b steps cycles s)
@@ -100,7 +100,7 @@ cycles-below m b l budget =
     m b 0 0 s (omega arith))
 
 -- the cause says what holds at the end
-cause-says : (l : Lines) (o : RunOutcome) (x : RunDone) → admission_of o.bus ≡ Admitted → x.cause ≡ cause_number (cause_of o.machine o.bus l) → CauseSays l o x
+cause-says : (l : Lines) (o : RunOutcome) (x : RunDone) → admission_of o.bus ≡ Ok tt → x.cause ≡ cause_number (cause_of o.machine o.bus l) → CauseSays l o x
 cause-says l o x s e = go o.machine.running.halted (meets_unspecified (step_of o.machine o.bus l).answer) refl refl
   where
     met : meets_unspecified (admitted_step o.machine o.bus l).answer ≡ meets_unspecified (step_of o.machine o.bus l).answer
@@ -169,12 +169,11 @@ same-cause Budget Unspecified e = absurd (omega arith)
 same-cause Budget Budget e = refl
 
 pub runs-apart : RunsApart
-runs-apart (Refused a) (Refused b) e = ap Refused (same-refusal a b e)
-runs-apart (Refused a) (Ended s c k) e = no_answer e
-runs-apart (Ended s c k) (Refused b) e = no_answer (sym e)
-runs-apart (Ended s c k) (Ended s' c' k') e =
-    let x = same_answer e in
-    let p = ap (λ (y : RunDone). y.steps) x in
-    let q = ap (λ (y : RunDone). y.cycles) x in
-    let n = same-cause k k' (ap (λ (y : RunDone). y.cause) x) in
-    cc
+runs-apart (Err a) (Err b) e = ap Err (same-refusal a b e)
+runs-apart (Err a) (Ok x) e = no_answer e
+runs-apart (Ok x) (Err b) e = no_answer (sym e)
+runs-apart (Ok x) (Ok y) e =
+    let d = same_answer e in
+    let ended : ℕ → ℕ → Cause → Ended = λ s c k. record { steps = s; cycles = c; cause = k } in
+    let spent = ap₂ ended (ap (λ (z : RunDone). z.steps) d) (ap (λ (z : RunDone). z.cycles) d) in
+    ap₂ (λ (of : Cause → Ended) (k : Cause). Ok (of k)) spent (same-cause x.cause y.cause (ap (λ (z : RunDone). z.cause) d))

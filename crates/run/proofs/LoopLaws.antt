@@ -7,13 +7,15 @@ use native.Mathlib.Omega.{arith}
 use lib.Dec.{eqb, ltb}
 use lib.ListN.{length}
 use borrow.Author.Tests.{eqb-false, ltb-true, ltb-false, le-ltb, lt-ltb, eq-eqb, ne_eqb}
+use Rattle.std.proofs.Common.{Result, Ok, Err}
+use Rattle.refusal.specs.declared.Refusal.{Refusal}
 use Rattle.refusal.specs.Report.{Report, refused, answered, is_refused}
 use Rattle.word.proofs.Choice.{cond-true, cond-false, cond_both}
-use Rattle.memory.specs.declared.Admission.TheVariants.{Admitted}
 use Rattle.memory.specs.declared.map.Board.{Board}
 use Rattle.memory.specs.Bus.{Bus, bus_on, admission_of}
 use Rattle.memory.specs.Near.{in_front, Near}
 use Rattle.cpu.specs.declared.Lines.{Lines}
+use Rattle.cpu.specs.declared.Done.{Done}
 use Rattle.cpu.specs.declared.NearStep.{NearStep}
 use Rattle.cpu.specs.Machine.{Machine, machine_of}
 use Rattle.cpu.specs.Answer.{StepDone, step_report, cycles_of, meets_unspecified}
@@ -68,7 +70,7 @@ unspecified-free : (a : Report StepDone) → meets_unspecified a ≡ true → cy
 unspecified-free (refused n) e = refl
 unspecified-free (answered x) e = absurd (false≢true e)
 
-halted-free : (m : Machine) (b : Bus) (l : Lines) → admission_of b ≡ Admitted → m.running.halted ≡ true → cycles_of (step_of m b l).answer ≡ 0
+halted-free : (m : Machine) (b : Bus) (l : Lines) → admission_of b ≡ Ok tt → m.running.halted ≡ true → cycles_of (step_of m b l).answer ≡ 0
 unfolding refused_step
 halted-free m b l s h = ap (λ (o : Outcome). cycles_of o.answer) (step-halted m b l s h)
 
@@ -85,7 +87,7 @@ module _ (l : Lines) (budget : ℕ) where
   EndsAlike m b steps cycles o = (a : Report StepDone) → o ≡ ending_of l (loop_on l budget steps cycles (from m b a))
 
   -- a step that costs nothing leaves all as it was
-  end-free : (m : Machine) (b : Bus) (steps cycles : ℕ) → admission_of b ≡ Admitted → cycles_of (step_of m b l).answer ≡ 0 → EndsAlike m b steps cycles (finish m b l steps cycles)
+  end-free : (m : Machine) (b : Bus) (steps cycles : ℕ) → admission_of b ≡ Ok tt → cycles_of (step_of m b l).answer ≡ 0 → EndsAlike m b steps cycles (finish m b l steps cycles)
   end-free m b steps cycles s z a = go (ltb cycles budget) refl
     where
       go : (t : Bool) → ltb cycles budget ≡ t → finish m b l steps cycles ≡ ending_of l (loop_on l budget steps cycles (from m b a))
@@ -97,7 +99,7 @@ module _ (l : Lines) (budget : ℕ) where
           ∙ ap (λ (o : Outcome). ending_of l (stop steps cycles o)) e
           ∙ ap (ending_of l) (sym (loop-refused l budget steps cycles (from m b a) (ltb-true cycles budget p) (ap (λ (o : Outcome). cycles_of o.answer) (sym e) ∙ z)))
 
-  end-alike : (m : Machine) (b : Bus) (steps cycles : ℕ) → admission_of b ≡ Admitted → steps_on m b l budget cycles ≡ false → EndsAlike m b steps cycles (finish m b l steps cycles)
+  end-alike : (m : Machine) (b : Bus) (steps cycles : ℕ) → admission_of b ≡ Ok tt → steps_on m b l budget cycles ≡ false → EndsAlike m b steps cycles (finish m b l steps cycles)
   end-alike m b steps cycles s e = go (rests m b l budget cycles e)
     where
       go : Rests m b l budget cycles → EndsAlike m b steps cycles (finish m b l steps cycles)
@@ -113,21 +115,16 @@ module _ (l : Lines) (budget : ℕ) where
       ∙ ap (λ (x : Outcome). ending_of l (loop_on l budget (steps + 1) (cycles + cycles_of x.answer) x)) e
       ∙ ap (ending_of l) (sym (loop-on l budget steps cycles (from m b a) k.below (λ z. omega (arith, k.charged, q, z))))
 
-  pub loop-is-run : (m : Machine) (b : Bus) → admission_of b ≡ Admitted → run_on m b l budget 0 0 ≡ ending_of l (loop_of m b l budget)
+  pub loop-is-run : (m : Machine) (b : Bus) → admission_of b ≡ Ok tt → run_on m b l budget 0 0 ≡ ending_of l (loop_of m b l budget)
   unfolding loop_of
   loop-is-run m b s = by-turns l budget EndsAlike end-alike step-alike m b 0 0 s (unstepped m b).answer
 
 -- a budget of 1 makes one step
-pub loop-is-step : (m : Machine) (b : Bus) (l : Lines) → admission_of b ≡ Admitted → (loop_of m b l 1).left ≡ step_of m b l
+pub loop-is-step : (m : Machine) (b : Bus) (l : Lines) → admission_of b ≡ Ok tt → (loop_of m b l 1).left ≡ step_of m b l
 unfolding loop_of loop_on loop_from
 loop-is-step m b l s =
     cond_both (λ (e : LoopEnd). e.left ≡ admitted_step m b l) (eqb (cycles_of (admitted_step m b l).answer) 0) refl refl
     ∙ sym (step-admitted m b l s)
-
--- a refused step costs nothing
-refused-free : (a : Report StepDone) → is_refused a ≡ true → cycles_of a ≡ 0
-refused-free (refused n) e = refl
-refused-free (answered x) e = absurd (false≢true e)
 
 -- the code's loop: the rest of it is the whole, no step was free, the last one went past the budget by less than its own cycles, the range is at hand,
 -- and the memory has this length
@@ -147,29 +144,29 @@ module _ {l : Lines} {budget : ℕ} {b : Board} {start : Outcome} {len : ℕ} {x
     left : outcome_near b y n ≡ next l (outcome_near b x m)
     left = e ∙ near_step b x.near y.near (machine_of x.state) l k.at_hand near m
 
-    pub ends-refused : is_refused (step_report y.answer) ≡ true → stop steps cycles (outcome_near b y n) ≡ loop_on l budget 0 0 start
+    pub ends-refused : {why : Refusal} → y.answer ≡ Err why → stop steps cycles (outcome_near b y n) ≡ loop_on l budget 0 0 start
     ends-refused r =
         ap (stop steps cycles) left
-        ∙ sym (loop-refused l budget steps cycles (outcome_near b x m) room (ap (λ (o : Outcome). cycles_of o.answer) (sym left) ∙ refused-free (step_report y.answer) r))
+        ∙ sym (loop-refused l budget steps cycles (outcome_near b x m) room (ap (λ (o : Outcome). cycles_of o.answer) (sym left) ∙ ap (λ (a : Result Done Refusal). cycles_of (step_report a)) r))
         ∙ k.same
 
-    -- it was not refused, and cost this
-    module _ {spent : ℕ} (p : spent ≡ cycles_of (step_report y.answer)) (r : is_refused (step_report y.answer) ≡ false) where
-      costs : cost l (outcome_near b x m) ≡ spent
-      costs = ap (λ (o : Outcome). cycles_of o.answer) (sym left) ∙ sym p
+    -- it was not refused, and did this
+    module _ {d : Done} (r : y.answer ≡ Ok d) where
+      costs : cost l (outcome_near b x m) ≡ d.cycles
+      costs = ap (λ (o : Outcome). cycles_of o.answer) (sym left) ∙ ap (λ (a : Result Done Refusal). cycles_of (step_report a)) r
 
-      pub costs-few : spent ≤ 12
+      pub costs-few : d.cycles ≤ 12
       costs-few = omega (arith, costs, admitted-most (machine_of x.state) (bus_on b m) l)
 
-      pub costs-some : 1 ≤ spent
+      pub costs-some : 1 ≤ d.cycles
       costs-some =
           omega (
             arith,
             costs,
-            answered-charged (next l (outcome_near b x m)).answer (admitted-charged (machine_of x.state) (bus_on b m) l) (ap (λ (o : Outcome). is_refused o.answer) (sym left) ∙ r),
+            answered-charged (next l (outcome_near b x m)).answer (admitted-charged (machine_of x.state) (bus_on b m) l) (ap (λ (o : Outcome). is_refused o.answer) (sym left) ∙ ap (λ (a : Result Done Refusal). is_refused (step_report a)) r),
           )
 
-      pub goes-round : length n ≡ length m → Looping l budget b start len y n (steps + 1) (cycles + spent)
+      pub goes-round : length n ≡ length m → Looping l budget b start len y n (steps + 1) (cycles + d.cycles)
       goes-round h =
           record {
             same =

@@ -4,21 +4,21 @@ use mathlib.Core.Path.{◌≡◌, refl, ap, sym, subst, ◌∙◌}
 use mathlib.Core.Bool.{Bool, true, false, not, cond, ◌&&◌, false≢true, true≢false}
 use native.Mathlib.Omega.{arith}
 use lib.Dec.{ltb}
-use borrow.Author.Tests.{ltb-true, ltb-false, le-ltb, lt-ltb}
+use borrow.Author.Tests.{ltb-true, ltb-false, le-ltb}
+use Rattle.std.proofs.Common.{Result, Ok, Err}
 use Rattle.refusal.specs.declared.Refusal.{Refusal}
 use Rattle.refusal.specs.declared.Refusal.TheVariants.{BudgetTooHigh, Halted as HaltedMachine}
 use Rattle.refusal.specs.Report.{Report, refused, answered, is_refused, UnlessRefused}
 use Rattle.word.proofs.Choice.{cond-true, cond-false, cond_both}
-use Rattle.memory.specs.declared.Admission.{Admission}
-use Rattle.memory.specs.declared.Admission.TheVariants.{Admitted, Barred}
 use Rattle.memory.specs.Bus.{Bus, admission_of, unless_barred}
-use Rattle.memory.proofs.BusLaws.{unless-in, unless-out}
+use Rattle.memory.proofs.BusLaws.{unless-out}
 use Rattle.cpu.specs.declared.Lines.{Lines}
 use Rattle.cpu.specs.Machine.{Machine}
 use Rattle.cpu.specs.Answer.{StepDone, cycles_of, meets_unspecified}
 use Rattle.cpu.specs.Step.{Outcome, step_of, admitted_step}
 use Rattle.cpu.proofs.ActionLaws.{step-admitted, step-charges, keeps_admission}
 use Rattle.run.specs.declared.Cause.TheVariants.{Halted, Unspecified, Budget}
+use Rattle.run.specs.Inner.Admission.{run_admission}
 use Rattle.run.specs.Run.{RunOutcome, refused_run, cause_of, finish, steps_on, run_from, run_on, run_of}
 use Rattle.run.specs.Laws.{RunEquation}
 
@@ -51,11 +51,11 @@ answered-charged (answered x) p e = p.0
 -- a run that goes on, and its next step
 pub record Goes (m : Machine) (b : Bus) (l : Lines) (budget cycles : ℕ) : Type 0 where
   pub on : steps_on m b l budget cycles ≡ true
-  pub admitted : admission_of b ≡ Admitted
+  pub admitted : admission_of b ≡ Ok tt
   pub below : cycles < budget
   pub charged : 1 ≤ cycles_of (step_of m b l).answer
 
-goes : (m : Machine) (b : Bus) (l : Lines) (budget cycles : ℕ) → admission_of b ≡ Admitted → steps_on m b l budget cycles ≡ true → Goes m b l budget cycles
+goes : (m : Machine) (b : Bus) (l : Lines) (budget cycles : ℕ) → admission_of b ≡ Ok tt → steps_on m b l budget cycles ≡ true → Goes m b l budget cycles
 unfolding steps_on
 goes m b l budget cycles s e =
     let k = all_hold (ltb cycles budget) m.running.halted (meets_unspecified (admitted_step m b l).answer) e in
@@ -89,9 +89,9 @@ none_left m b l budget cycles h = rw (le-ltb cycles budget h)
 -- what holds of each end, and before a step where it holds after it, holds of the run
 module _
     (l : Lines) (budget : ℕ) (R : Machine → Bus → ℕ → ℕ → RunOutcome → Type 0)
-    (ends : (m : Machine) (b : Bus) (steps cycles : ℕ) → admission_of b ≡ Admitted → steps_on m b l budget cycles ≡ false → R m b steps cycles (finish m b l steps cycles))
+    (ends : (m : Machine) (b : Bus) (steps cycles : ℕ) → admission_of b ≡ Ok tt → steps_on m b l budget cycles ≡ false → R m b steps cycles (finish m b l steps cycles))
     (before : (m : Machine) (b : Bus) (steps cycles : ℕ) (o : RunOutcome) → Goes m b l budget cycles → R (step_of m b l).machine (step_of m b l).bus (steps + 1) (cycles + cycles_of (step_of m b l).answer) o → R m b steps cycles o) where
-  by_count : (n : ℕ) (m : Machine) (b : Bus) (steps cycles : ℕ) → admission_of b ≡ Admitted → budget ≤ cycles + n → R m b steps cycles (run_from n m b l budget steps cycles)
+  by_count : (n : ℕ) (m : Machine) (b : Bus) (steps cycles : ℕ) → admission_of b ≡ Ok tt → budget ≤ cycles + n → R m b steps cycles (run_from n m b l budget steps cycles)
   unfolding run_from
   by_count zero m b steps cycles s h = ends m b steps cycles s (none_left m b l budget cycles (omega arith))
   by_count (suc n) m b steps cycles s h =
@@ -106,20 +106,20 @@ module _
           subst (λ (o : Outcome). R m b steps cycles (next o)) (step-admitted m b l s) (before m b steps cycles _ k (r k.charged))
       turn false e r = ends m b steps cycles s e
 
-  pub by-turns : (m : Machine) (b : Bus) (steps cycles : ℕ) → admission_of b ≡ Admitted → R m b steps cycles (run_on m b l budget steps cycles)
+  pub by-turns : (m : Machine) (b : Bus) (steps cycles : ℕ) → admission_of b ≡ Ok tt → R m b steps cycles (run_on m b l budget steps cycles)
   unfolding run_on
   by-turns m b steps cycles s = by_count (budget - cycles) m b steps cycles s (omega arith)
 
 -- any count that suffices
 module _ (l : Lines) (budget : ℕ) where
-  run_on-is : (m : Machine) (b : Bus) (steps cycles : ℕ) → admission_of b ≡ Admitted → (n : ℕ) → budget ≤ cycles + n → run_on m b l budget steps cycles ≡ run_from n m b l budget steps cycles
+  run_on-is : (m : Machine) (b : Bus) (steps cycles : ℕ) → admission_of b ≡ Ok tt → (n : ℕ) → budget ≤ cycles + n → run_on m b l budget steps cycles ≡ run_from n m b l budget steps cycles
   unfolding run_from
   run_on-is =
       by-turns l budget (λ m b steps cycles o. (n : ℕ) → budget ≤ cycles + n → o ≡ run_from n m b l budget steps cycles)
       ends
       before
     where
-      ends : (m : Machine) (b : Bus) (steps cycles : ℕ) → admission_of b ≡ Admitted → steps_on m b l budget cycles ≡ false → (n : ℕ) → budget ≤ cycles + n → finish m b l steps cycles ≡ run_from n m b l budget steps cycles
+      ends : (m : Machine) (b : Bus) (steps cycles : ℕ) → admission_of b ≡ Ok tt → steps_on m b l budget cycles ≡ false → (n : ℕ) → budget ≤ cycles + n → finish m b l steps cycles ≡ run_from n m b l budget steps cycles
       ends m b steps cycles s e zero h = refl
       ends m b steps cycles s e (suc n) h = sym (cond-false _ _ e)
 
@@ -143,26 +143,41 @@ run-equation m b l budget steps cycles s =
 -- the run by the way it goes: "1, 4, 2"
 module _ (m : Machine) (b : Bus) (l : Lines) (budget : ℕ) where
   -- what holds of each refusal, and of the run once it is let in, holds of the run
-  pub by-run : (P : RunOutcome → Type 0) → ((r : Refusal) → P (refused_run m b r)) → (admission_of b ≡ Admitted → P (run_on m b l budget 0 0)) → P (run_of m b l budget)
+  pub by-run : (P : RunOutcome → Type 0) → ((r : Refusal) → P (refused_run m b r)) → (admission_of b ≡ Ok tt → P (run_on m b l budget 0 0)) → P (run_of m b l budget)
   unfolding run_of
   by-run P refuses runs = go (admission_of b) refl
     where
-      go : (a : Admission) → admission_of b ≡ a → P (unless_barred a (refused_run m b) (cond (ltb 1000000 budget) (refused_run m b BudgetTooHigh) (cond m.running.halted (refused_run m b HaltedMachine) (run_on m b l budget 0 0))))
-      go Admitted s = cond_both P (ltb 1000000 budget) (refuses BudgetTooHigh) (cond_both P m.running.halted (refuses HaltedMachine) (runs s))
-      go (Barred r) s = refuses r
+      go : (a : Result (Unit {0}) Refusal) → admission_of b ≡ a → P (unless_barred a (refused_run m b) (cond (ltb 1000000 budget) (refused_run m b BudgetTooHigh) (cond m.running.halted (refused_run m b HaltedMachine) (run_on m b l budget 0 0))))
+      go (Ok u) s = cond_both P (ltb 1000000 budget) (refuses BudgetTooHigh) (cond_both P m.running.halted (refuses HaltedMachine) (runs s))
+      go (Err r) s = refuses r
 
-  pub run-barred : {r : Refusal} → admission_of b ≡ Barred r → run_of m b l budget ≡ refused_run m b r
+  pub run-barred : {r : Refusal} → admission_of b ≡ Err r → run_of m b l budget ≡ refused_run m b r
   unfolding run_of
   run-barred s = unless-out _ _ s
 
-  pub run-high : admission_of b ≡ Admitted → 1000000 < budget → run_of m b l budget ≡ refused_run m b BudgetTooHigh
-  unfolding run_of
-  run-high s p = unless-in _ _ s ∙ cond-true _ _ (lt-ltb 1000000 budget p)
+  -- the tests before a run, all in one
+  pub run-admits : run_of m b l budget ≡ unless_barred (run_admission m b budget) (refused_run m b) (run_on m b l budget 0 0)
+  unfolding run_of run_admission
+  run-admits = go (admission_of b) (ltb 1000000 budget) m.running.halted
+    where
+      go : (a : Result (Unit {0}) Refusal) (high halted : Bool) → unless_barred a (refused_run m b) (cond high (refused_run m b BudgetTooHigh) (cond halted (refused_run m b HaltedMachine) (run_on m b l budget 0 0))) ≡ unless_barred (unless_barred a Err (cond high (Err BudgetTooHigh) (cond halted (Err HaltedMachine) (Ok tt)))) (refused_run m b) (run_on m b l budget 0 0)
+      go (Err r) high halted = refl
+      go (Ok u) true halted = refl
+      go (Ok u) false true = refl
+      go (Ok u) false false = refl
 
-  pub run-halted : admission_of b ≡ Admitted → budget ≤ 1000000 → m.running.halted ≡ true → run_of m b l budget ≡ refused_run m b HaltedMachine
-  unfolding run_of
-  run-halted s p h = unless-in _ _ s ∙ cond-false _ _ (le-ltb 1000000 budget p) ∙ cond-true _ _ h
+-- a run that is let in
+pub record Admits (m : Machine) (b : Bus) (budget : ℕ) : Type 0 where
+  pub admitted : admission_of b ≡ Ok tt
+  pub low : budget ≤ 1000000
+  pub runs : m.running.halted ≡ false
 
-  pub run-starts : admission_of b ≡ Admitted → budget ≤ 1000000 → m.running.halted ≡ false → run_of m b l budget ≡ run_on m b l budget 0 0
-  unfolding run_of
-  run-starts s p h = unless-in _ _ s ∙ cond-false _ _ (le-ltb 1000000 budget p) ∙ cond-false _ _ h
+pub admits : (m : Machine) (b : Bus) (budget : ℕ) → run_admission m b budget ≡ Ok tt → Admits m b budget
+unfolding run_admission
+admits m b budget e = go (admission_of b) (ltb 1000000 budget) m.running.halted refl refl refl e
+  where
+    go : (a : Result (Unit {0}) Refusal) (high halted : Bool) → admission_of b ≡ a → ltb 1000000 budget ≡ high → m.running.halted ≡ halted → unless_barred a Err (cond high (Err BudgetTooHigh) (cond halted (Err HaltedMachine) (Ok tt))) ≡ Ok (tt {0}) → Admits m b budget
+    go (Err r) high halted p q s e = absurd (cc)
+    go (Ok u) true halted p q s e = absurd (cc)
+    go (Ok u) false true p q s e = absurd (cc)
+    go (Ok u) false false p q s e = record { admitted = p; low = ltb-false 1000000 budget q; runs = s }

@@ -1,2 +1,3 @@
 -- Definitions in the code's shape.
+pub mod Admission
 pub mod Loop

@@ -1,7 +1,6 @@
 -- What holds of every run.
-use Rattle.std.specs.Prelude.{ℕ, zero, suc, ◌+◌, ◌<◌, ◌≤◌, ◌≡◌, ◌↔◌, true, false, cond, List, [], ◌∷◌}
+use Rattle.std.specs.Prelude.{ℕ, zero, suc, ◌+◌, ◌<◌, ◌≤◌, ◌≡◌, ◌↔◌, true, false, cond, List, [], ◌∷◌, Ok}
 use Rattle.refusal.specs.Report.{UnlessRefused}
-use Rattle.memory.specs.declared.Admission.TheVariants.{Admitted}
 use Rattle.memory.specs.Bus.{Bus, admission_of}
 use Rattle.cpu.specs.declared.Lines.{Lines}
 use Rattle.cpu.specs.Machine.{Machine}
@@ -15,7 +14,7 @@ use Rattle.run.specs.Run.{cause_number, RunDone, RunOutcome, finish, steps_on, r
 abbrev pub RunEquation : Type 0
 RunEquation =
     (m : Machine) (b : Bus) (l : Lines) (budget steps cycles : ℕ) →
-    admission_of b ≡ Admitted →
+    admission_of b ≡ Ok tt →
     run_on m b l budget steps cycles
     ≡ cond (steps_on m b l budget cycles)
     (run_on (step_of m b l).machine (step_of m b l).bus l budget (steps + 1) (cycles + cycles_of (step_of m b l).answer))

@@ -1,5 +1,5 @@
 -- Document 01, "Run".
-use Rattle.std.specs.Prelude.{ℕ, zero, suc, ◌+◌, ◌-◌, Bool, not, cond, ◌&&◌, List, ltb}
+use Rattle.std.specs.Prelude.{ℕ, zero, suc, ◌+◌, ◌-◌, Bool, not, cond, ◌&&◌, List, ltb, Result, Ok, Err}
 use Rattle.refusal.specs.declared.Refusal.{Refusal}
 use Rattle.refusal.specs.declared.Refusal.TheVariants.{BudgetTooHigh, Halted as HaltedMachine}
 use Rattle.refusal.specs.Refusals.{refusal_number}
@@ -12,8 +12,7 @@ use Rattle.cpu.specs.Answer.{cycles_of, meets_unspecified}
 use Rattle.cpu.specs.Step.{Outcome, admitted_step}
 use Rattle.run.specs.declared.Cause.{Cause}
 use Rattle.run.specs.declared.Cause.TheVariants.{Halted, Unspecified, Budget}
-use Rattle.run.specs.declared.RunAnswer.{RunAnswer}
-use Rattle.run.specs.declared.RunAnswer.TheVariants.{Refused, Ended}
+use Rattle.run.specs.declared.Ended.{Ended}
 use Rattle.run.specs.declared.Ran.{Ran}
 
 -- "which cause ended it (halted, then unspecified, then budget)": the causes in this order, counted from 0
@@ -28,9 +27,9 @@ pub record RunDone : Type 0 where
   pub cycles : ℕ
   pub cause : ℕ
 
-abbrev pub run_report : RunAnswer → Report RunDone
-run_report (Refused r) = refused (refusal_number r)
-run_report (Ended steps cycles cause) = answered (record { steps = steps; cycles = cycles; cause = cause_number cause })
+abbrev pub run_report : Result Ended Refusal → Report RunDone
+run_report (Err r) = refused (refusal_number r)
+run_report (Ok e) = answered (record { steps = e.steps; cycles = e.cycles; cause = cause_number e.cause })
 
 -- no two answers are reported alike
 abbrev pub RunsApart : Type 0

@@ -6,13 +6,13 @@ ghost use Rattle.std.specs.Prelude.{◌≡◌, ◌+◌, ◌<◌, ◌≤◌};
 ghost use Rattle.memory.specs.Bus.{bus_on};
 ghost use Rattle.cpu.specs.Machine.{machine_of};
 ghost use Rattle.cpu.specs.Step.{outcome, step_of};
-ghost use Rattle.run.specs.declared.RunAnswer.TheVariants.{Refused};
 ghost use Rattle.run.specs.Run.{cause_of, run_outcome, run_of};
+ghost use Rattle.run.specs.Inner.Admission.{run_admission};
 ghost use Rattle.run.specs.Inner.Loop.{stopped_of, loop_end, loop_of};
 
-use cpu::{Lines, NearStep, State, Status, StepAnswer, Stepped};
+use cpu::{Done, Kind, Lines, NearStep, State, Status, Stepped};
 use memory::map::Board;
-use memory::{Admission, near};
+use memory::near;
 use refusal::Refusal;
 
 // What ended a run.
@@ -23,21 +23,19 @@ pub enum Cause {
     Budget,
 }
 
-// Steps, cycles and the cause of the end, or why the run was refused.
+// How a run ended: the steps that it made, their cycles, and the cause.
 #[derive(Clone, Copy)]
-pub enum RunAnswer {
-    Refused(Refusal),
-    Ended {
-        steps: u32,
-        cycles: u32,
-        cause: Cause,
-    },
+pub struct Ended {
+    pub steps: u32,
+    pub cycles: u32,
+    pub cause: Cause,
 }
 
+// What a run left: the state, and how it ended or why it was refused.
 #[derive(Clone, Copy)]
 pub struct Ran {
     pub state: State,
-    pub answer: RunAnswer,
+    pub answer: Result<Ended, Refusal>,
 }
 
 // Where the loop stopped: the steps that it made and the sum of their cycles, and what the last step tried left. Before the first that is
@@ -47,19 +45,17 @@ struct Stop {
     state: State,
     steps: u32,
     cycles: u64,
-    answer: StepAnswer,
+    answer: Result<Done, Refusal>,
 }
 
 fn stopped(last: NearStep, steps: u32, cycles: u64) -> Stop
     ensures { result ≡ stopped_of last steps cycles }
 {
-    let state = last.state;
-    let answer = last.answer;
     Stop {
-        state: state,
-        steps: steps,
-        cycles: cycles,
-        answer: answer,
+        state: last.state,
+        steps,
+        cycles,
+        answer: last.answer,
     }
 }
 
@@ -98,23 +94,22 @@ fn make_steps(state: State, board: Board, mem: &mut [u16], lines: Lines, budget:
 {
     let mut last = NearStep {
         state: copied(state),
-        answer: StepAnswer::Granted { cycles: 0 },
+        answer: Ok(Done {
+            kind: Kind::Granted,
+            cycles: 0,
+        }),
         near: near::no_range(),
     };
     let mut steps: u32 = 0;
     let mut cycles: u64 = 0;
     let limit = budget as u64;
     while cycles < limit {
-        let from = last.state;
-        let at_hand = last.near;
-        last = cpu::admitted_step(from, board, at_hand, mem, lines);
-        let answer = last.answer;
-        let refused = cpu::is_refused(answer);
-        if refused {
+        last = cpu::admitted_step(last.state, board, last.near, mem, lines);
+        let Ok(done) = last.answer else {
             return stopped(last, steps, cycles);
-        }
-        cycles = cycles + cpu::cycles(answer);
-        steps = steps + 1;
+        };
+        cycles += done.cycles;
+        steps += 1;
     }
     stopped(last, steps, cycles)
 }
@@ -123,19 +118,16 @@ fn make_steps(state: State, board: Board, mem: &mut [u16], lines: Lines, budget:
 pub fn one_step(state: State, board: Board, mem: &mut [u16], lines: Lines) -> Stepped
     ensures { outcome board result mem.new ≡ step_of (machine_of state) (bus_on board mem.old) lines }
 {
-    let admission = memory::admit(board, mem);
-    if let Admission::Barred(refusal) = admission {
+    if let Err(refusal) = memory::admit(board, mem) {
         return Stepped {
-            state: state,
-            answer: StepAnswer::Refused(refusal),
+            state,
+            answer: Err(refusal),
         };
     }
     let stopped = make_steps(state, board, mem, lines, 1);
-    let after = stopped.state;
-    let answer = stopped.answer;
     Stepped {
-        state: after,
-        answer: answer,
+        state: stopped.state,
+        answer: stopped.answer,
     }
 }
 
@@ -143,53 +135,53 @@ pub fn one_step(state: State, board: Board, mem: &mut [u16], lines: Lines) -> St
 fn ended_by(state: State, board: Board, mem: &[u16], lines: Lines) -> Cause
     ensures { result ≡ cause_of (machine_of state) (bus_on board mem.now) lines }
 {
-    let status = state.status;
-    let halted = status.halted;
-    if halted {
-        return Cause::Halted;
-    }
-    let unspecified = cpu::is_unspecified_next(state, board, mem, lines);
-    if unspecified {
+    if state.status.halted {
+        Cause::Halted
+    } else if cpu::is_unspecified_next(state, board, mem, lines) {
         Cause::Unspecified
     } else {
         Cause::Budget
     }
 }
 
-fn refused(state: State, refusal: Refusal) -> Ran
-    ensures { (result.state ≡ state) × (result.answer ≡ Refused refusal) }
+// Whether a run is let in: the tests 1 and 14, then 4, then 2.
+#[tactic(auto, unfolding(crate::specs::Inner::Admission::run_admission))]
+fn admit(state: State, board: Board, mem: &[u16], budget: u32) -> Result<(), Refusal>
+    ensures { result ≡ run_admission (machine_of state) (bus_on board mem.now) budget }
 {
-    Ran {
-        state: state,
-        answer: RunAnswer::Refused(refusal),
+    memory::admit(board, mem)?;
+    if BUDGET_LIMIT < budget {
+        return Err(Refusal::BudgetTooHigh);
     }
+    if state.status.halted {
+        return Err(Refusal::Halted);
+    }
+    Ok(())
 }
 
 // Runs for a budget of 0 to 1,000,000 cycles.
 pub fn run(state: State, board: Board, mem: &mut [u16], lines: Lines, budget: u32) -> Ran
     ensures { run_outcome board result mem.new ≡ run_of (machine_of state) (bus_on board mem.old) lines budget }
 {
-    let admission = memory::admit(board, mem);
-    if let Admission::Barred(refusal) = admission {
-        return refused(state, refusal);
+    if let Err(refusal) = admit(state, board, mem, budget) {
+        return Ran {
+            state,
+            answer: Err(refusal),
+        };
     }
-    if BUDGET_LIMIT < budget {
-        return refused(state, Refusal::BudgetTooHigh);
-    }
-    let status = state.status;
-    let halted = status.halted;
-    if halted {
-        return refused(state, Refusal::Halted);
-    }
-    let stopped = make_steps(state, board, mem, lines, budget);
-    let after = stopped.state;
-    let cycles = stopped.cycles as u32;
+    let Stop {
+        state,
+        steps,
+        cycles,
+        ..
+    } = make_steps(state, board, mem, lines, budget);
+    let ended = Ended {
+        steps,
+        cycles: cycles as u32,
+        cause: ended_by(state, board, mem, lines),
+    };
     Ran {
-        state: after,
-        answer: RunAnswer::Ended {
-            steps: stopped.steps,
-            cycles: cycles,
-            cause: ended_by(after, board, mem, lines),
-        },
+        state,
+        answer: Ok(ended),
     }
 }

@@ -8,15 +8,15 @@ use Rattle.cpu.proofs.ActionLaws.{step-admitted, step-barred}
 use Rattle.cpu.proofs.LocalLaws.{near_step}
 use Rattle.cpu.proofs.step.Goals as goal
 
-pub returns-in-Barred : goal.returns-in-Barred
+pub returns-in-Err : goal.returns-in-Err
 unfolding refused_step
-returns-in-Barred c =
+returns-in-Err c =
     let a = c.args in
-    sym (step-barred _ _ a.lines (sym c.admit-admission.ensures ∙ c.in-Barred.is))
+    sym (step-barred _ _ a.lines (sym c.admit.ensures ∙ c.in-Err.is))
 
-pub returns-in-Admitted : goal.returns-in-Admitted
-returns-in-Admitted c =
+pub returns : goal.returns
+returns c =
     let a = c.args in
     c.admitted_step-left.ensures.left
     ∙ near_step a.board c.no_range.result c.admitted_step-left.result.near (machine_of a.state) a.lines (subst (Near a.board) (sym c.no_range.ensures) (near-laws.none a.board)) c.admitted_step-left.ensures.near a.mem.now
-    ∙ sym (step-admitted _ _ a.lines (sym c.admit-admission.ensures ∙ c.in-Admitted.is))
+    ∙ sym (step-admitted _ _ a.lines (sym c.admit.ensures ∙ c.in_default.is))

@@ -1,12 +1,12 @@
 -- The parts of a state as the code has them, registers apart from a flat status, beside the machine in groups.
-use Rattle.std.specs.Prelude.{ℕ, Bool, true, false, not, ◌&&◌, ◌||◌, List}
+use Rattle.std.specs.Prelude.{ℕ, Bool, true, false, not, ◌&&◌, ◌||◌, List, Result, Option, None, Some}
+use Rattle.refusal.specs.declared.Refusal.{Refusal}
 use Rattle.memory.specs.declared.map.Range.{Range}
-use Rattle.decode.specs.declared.Decoded.{Decoded}
-use Rattle.decode.specs.declared.Decoded.TheVariants.{Unspecified, Known}
+use Rattle.decode.specs.declared.Instr.{Instr}
 use Rattle.cpu.specs.declared.Status.{Status}
 use Rattle.cpu.specs.declared.State.{State}
 use Rattle.cpu.specs.declared.Lines.{Lines}
-use Rattle.cpu.specs.declared.StepAnswer.{StepAnswer}
+use Rattle.cpu.specs.declared.Done.{Done}
 use Rattle.cpu.specs.declared.NearStep.{NearStep}
 use Rattle.cpu.specs.Machine.{Flags, Machine, machine_of}
 
@@ -52,9 +52,9 @@ interrupted_in k =
     }
 
 -- whether what is decoded is an unspecified form
-abbrev pub is_unspecified_form : Decoded → Bool
-is_unspecified_form Unspecified = true
-is_unspecified_form (Known i) = false
+abbrev pub is_unspecified_form : Option Instr → Bool
+is_unspecified_form None = true
+is_unspecified_form (Some i) = false
 
-abbrev pub stepped_of : List ℕ → Status → StepAnswer → Range → NearStep
+abbrev pub stepped_of : List ℕ → Status → Result Done Refusal → Range → NearStep
 stepped_of r k a near = record { state = state_of r k; answer = a; near = near }

@@ -5,15 +5,15 @@ use Rattle.cpu.specs.Machine.{machine_of}
 use Rattle.run.proofs.RunLaws.{ends-halted, ends-unspecified, ends-budget}
 use Rattle.run.proofs.ended_by.Goals as goal
 
-pub returns-then-halted : goal.returns-then-halted
-returns-then-halted c = let a = c.args in sym (ends-halted (machine_of a.state) (bus_on a.board a.mem.now) a.lines c.if-halted.true)
+pub returns-then-state : goal.returns-then-state
+returns-then-state c = let a = c.args in sym (ends-halted (machine_of a.state) (bus_on a.board a.mem.now) a.lines c.if-state.true)
 
-pub returns-then-unspecified : goal.returns-then-unspecified
-returns-then-unspecified c =
+pub returns-then-is_unspecified_next : goal.returns-then-is_unspecified_next
+returns-then-is_unspecified_next c =
     let a = c.args in
-    sym (ends-unspecified (machine_of a.state) (bus_on a.board a.mem.now) a.lines c.if-halted.false (sym c.is_unspecified_next-unspecified.ensures ∙ c.if-unspecified.true))
+    sym (ends-unspecified (machine_of a.state) (bus_on a.board a.mem.now) a.lines c.if-state.false (sym c.is_unspecified_next.ensures ∙ c.if-is_unspecified_next.true))
 
-pub returns-else-unspecified : goal.returns-else-unspecified
-returns-else-unspecified c =
+pub returns-else-is_unspecified_next : goal.returns-else-is_unspecified_next
+returns-else-is_unspecified_next c =
     let a = c.args in
-    sym (ends-budget (machine_of a.state) (bus_on a.board a.mem.now) a.lines c.if-halted.false (sym c.is_unspecified_next-unspecified.ensures ∙ c.if-unspecified.false))
+    sym (ends-budget (machine_of a.state) (bus_on a.board a.mem.now) a.lines c.if-state.false (sym c.is_unspecified_next.ensures ∙ c.if-is_unspecified_next.false))

@@ -1,5 +1,5 @@
 -- `make_steps`: the rest of the loop is the whole of it.
-use mathlib.Core.Path.{refl, sym, subst, ◌∙◌}
+use mathlib.Core.Path.{refl, sym, subst}
 use native.Mathlib.Omega.{arith}
 use Rattle.memory.specs.Near.{Near}
 use Rattle.memory.proofs.NearLaws.{near-laws}
@@ -18,11 +18,11 @@ loop-cycles-init c =
       size = refl;
     }
 
-pub returns-then-refused : goal.returns-then-refused
+pub returns-in_default : goal.returns-in_default
 unfolding loop_of
-returns-then-refused c =
+returns-in_default c =
     let made = c.admitted_step-last in
-    rw (c.stopped.ensures, ← c.copied.ensures) record { ends = ends-refused c.loop-cycles.invariant made.result made.ensures.left made.ensures.near c.loop-cycles-test.true (sym c.is_refused-refused.ensures ∙ c.if-refused.true); below = c.loop-cycles.invariant.below }
+    rw (c.stopped.ensures, ← c.copied.ensures) record { ends = ends-refused c.loop-cycles.invariant made.result made.ensures.left made.ensures.near c.loop-cycles-test.true c.in_default.is; below = c.loop-cycles.invariant.below }
 
 pub overflow_add-cycles : goal.overflow_add-cycles
 overflow_add-cycles c =
@@ -32,7 +32,7 @@ overflow_add-cycles c =
       arith,
       c.requires,
       room,
-      costs-few c.loop-cycles.invariant made.result made.ensures.left made.ensures.near room c.cycles-cycles.ensures (sym c.is_refused-refused.ensures ∙ c.if-refused.false),
+      costs-few c.loop-cycles.invariant made.result made.ensures.left made.ensures.near room c.in-Ok.is,
     )
 
 pub overflow_add-steps : goal.overflow_add-steps
@@ -46,13 +46,13 @@ loop-cycles-smaller c =
     omega (
       arith,
       room,
-      costs-some c.loop-cycles.invariant made.result made.ensures.left made.ensures.near room c.cycles-cycles.ensures (sym c.is_refused-refused.ensures ∙ c.if-refused.false),
+      costs-some c.loop-cycles.invariant made.result made.ensures.left made.ensures.near room c.in-Ok.is,
     )
 
 pub loop-cycles-preserved : goal.loop-cycles-preserved
 loop-cycles-preserved c =
     let made = c.admitted_step-last in
-    goes-round c.loop-cycles.invariant made.result made.ensures.left made.ensures.near c.loop-cycles-test.true c.cycles-cycles.ensures (sym c.is_refused-refused.ensures ∙ c.if-refused.false) made.auto.mem
+    goes-round c.loop-cycles.invariant made.result made.ensures.left made.ensures.near c.loop-cycles-test.true c.in-Ok.is made.auto.mem
 
 pub returns : goal.returns
 unfolding loop_of

@@ -8,14 +8,14 @@ use Rattle.run.specs.Inner.Loop.{LoopEnd}
 use Rattle.run.proofs.LoopLaws.{loop-is-step}
 use Rattle.run.proofs.one_step.Goals as goal
 
-pub returns-in-Barred : goal.returns-in-Barred
+pub returns-in-Err : goal.returns-in-Err
 unfolding refused_step
-returns-in-Barred c =
+returns-in-Err c =
     let a = c.args in
-    sym (step-barred (machine_of a.state) (bus_on a.board a.mem.now) a.lines (sym c.admit-admission.ensures ∙ c.in-Barred.is))
+    sym (step-barred (machine_of a.state) (bus_on a.board a.mem.now) a.lines (sym c.admit.ensures ∙ c.in-Err.is))
 
 pub returns : goal.returns
 returns c =
     let a = c.args in
     ap (λ (e : LoopEnd). e.left) c.make_steps-stopped.ensures.ends
-    ∙ loop-is-step (machine_of a.state) (bus_on a.board a.mem.now) a.lines (sym c.admit-admission.ensures ∙ c.in_default.is)
+    ∙ loop-is-step (machine_of a.state) (bus_on a.board a.mem.now) a.lines (sym c.admit.ensures ∙ c.in_default.is)

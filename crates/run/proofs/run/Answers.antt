@@ -1,46 +1,39 @@
--- `run`: the tests in the order 1, 4, 2, and then the loop's end.
-use mathlib.Core.Path.{sym, ◌∙◌}
+-- `run`: let in or refused, and then the loop's end.
+use mathlib.Core.Path.{◌≡◌, sym, ◌∙◌}
 use native.Mathlib.Omega.{arith}
+use Rattle.std.proofs.Common.{Ok}
 use Rattle.memory.specs.Bus.{bus_on}
 use Rattle.cpu.specs.Machine.{machine_of}
 use Rattle.run.specs.Run.{refused_run, finish}
-use Rattle.run.proofs.RunLaws.{run-barred, run-high, run-halted, run-starts}
+use Rattle.run.specs.Inner.Admission.{run_admission}
+use Rattle.run.proofs.RunLaws.{run-admits, admits}
 use Rattle.run.proofs.LoopLaws.{loop-is-run}
 use Rattle.run.proofs.run.Goals as goal
 
-pub returns-in-Barred : goal.returns-in-Barred
+pub returns-in-Err : goal.returns-in-Err
 unfolding refused_run
-returns-in-Barred c =
-    let a = c.args in
-    rw (c.refused.ensures.0, c.refused.ensures.1)
-    (sym (run-barred (machine_of a.state) (bus_on a.board a.mem.now) a.lines a.budget (sym c.admit-admission.ensures ∙ c.in-Barred.is)))
+returns-in-Err c = rw (run-admits, ← c.admit.ensures, c.in-Err.is)
 
-pub returns-then-budget-gt-BUDGET_LIMIT : goal.returns-then-budget-gt-BUDGET_LIMIT
-unfolding refused_run
-returns-then-budget-gt-BUDGET_LIMIT c =
+pub make_steps-steps-requires : goal.make_steps-steps-requires
+make_steps-steps-requires c =
     let a = c.args in
-    rw (c.refused-then-budget-gt-BUDGET_LIMIT.ensures.0, c.refused-then-budget-gt-BUDGET_LIMIT.ensures.1)
-    (sym (run-high (machine_of a.state) (bus_on a.board a.mem.now) a.lines a.budget (sym c.admit-admission.ensures ∙ c.in_default.is) c.if-budget-gt-BUDGET_LIMIT.true))
+    (admits (machine_of a.state) (bus_on a.board a.mem.now) a.budget (sym c.admit.ensures ∙ c.in_default.is)).low
 
-pub returns-then-halted : goal.returns-then-halted
-unfolding refused_run
-returns-then-halted c =
+pub overflow_cast-ended : goal.overflow_cast-ended
+overflow_cast-ended c =
     let a = c.args in
-    rw (c.refused-then-halted.ensures.0, c.refused-then-halted.ensures.1)
-    (sym (run-halted (machine_of a.state) (bus_on a.board a.mem.now) a.lines a.budget (sym c.admit-admission.ensures ∙ c.in_default.is) c.if-budget-gt-BUDGET_LIMIT.false c.if-halted.true))
-
-pub overflow_cast-cycles : goal.overflow_cast-cycles
-overflow_cast-cycles c =
-    omega (arith, c.make_steps-stopped.ensures.below, c.if-budget-gt-BUDGET_LIMIT.false)
+    omega (arith, c.make_steps-steps.ensures.below, (admits (machine_of a.state) (bus_on a.board a.mem.now) a.budget (sym c.admit.ensures ∙ c.in_default.is)).low)
 
 pub returns : goal.returns
 unfolding finish
 returns c =
     let a = c.args in
-    let admitted = sym c.admit-admission.ensures ∙ c.in_default.is in
+    let e : run_admission (machine_of a.state) (bus_on a.board a.mem.now) a.budget ≡ Ok tt = sym c.admit.ensures ∙ c.in_default.is in
+    let k = admits _ _ _ e in
     rw (
-      run-starts (machine_of a.state) (bus_on a.board a.mem.now) a.lines a.budget admitted c.if-budget-gt-BUDGET_LIMIT.false c.if-halted.false,
-      loop-is-run a.lines a.budget (machine_of a.state) (bus_on a.board a.mem.now) admitted,
-      ← c.make_steps-stopped.ensures.ends,
+      run-admits,
+      e,
+      loop-is-run a.lines a.budget (machine_of a.state) (bus_on a.board a.mem.now) k.admitted,
+      ← c.make_steps-steps.ensures.ends,
       c.ended_by.ensures,
     )

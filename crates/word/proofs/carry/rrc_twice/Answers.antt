@@ -9,4 +9,4 @@ pub returns : goal.returns
 unfolding rrc_twice shift_twice shift_of with_low_sign bits_of
 returns c =
     rw (c.with_low_sign.ensures, c.taken_apart-old.ensures)
-    (written rrc_row true c.args.f (search rules) (refl, (refl, (refl, (refl, (refl, (refl, (refl, (refl, (refl, (refl, (refl, (refl, (refl, (refl, (refl, (refl, tt)))))))))))))))) refl refl)
+    (written rrc_row true c.args.f (search rules) (search rules) refl refl)

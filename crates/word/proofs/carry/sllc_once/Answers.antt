@@ -10,4 +10,4 @@ pub returns : goal.returns
 unfolding sllc_once shift_once shift_of with_sign bits_of
 returns c =
     rw (c.with_sign.ensures, c.taken_apart-old.ensures)
-    (written sllc_row false c.args.f (search rules) (refl, (refl, (refl, (refl, (refl, (refl, (refl, (refl, (refl, (refl, (refl, (refl, (refl, (refl, (refl, (refl, tt)))))))))))))))) refl refl)
+    (written sllc_row false c.args.f (search rules) (search rules) refl refl)
