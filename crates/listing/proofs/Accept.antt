@@ -6,7 +6,6 @@ use mathlib.Core.List.{List, [], ◌∷◌}
 use native.Mathlib.Omega.{arith}
 use lib.Dec.{leb, ltb, eqb, lit<, lit≤}
 use lib.ListN.{length, get_or}
-use borrow.Author.Tests.{eq-eqb}
 use Rattle.word.specs.Word.{wrap_add}
 use Rattle.word.proofs.Choice.{cond_both, cond_either}
 use Rattle.memory.specs.Bus.{bus_of, read_of}
@@ -25,13 +24,12 @@ use Rattle.listing.specs.Disassemble.{text_at}
 use Rattle.listing.specs.Cut.{cut_at}
 use Rattle.listing.specs.Assemble.{no_line, held_to, assemble_of}
 use Rattle.listing.specs.Laws.{WordsOf}
-use Rattle.listing.specs.Inner.Rows.{template_of, base_of}
+use Rattle.listing.specs.Inner.Rows.{base_of}
 use Rattle.listing.specs.Inner.Line.{text_of}
 use Rattle.listing.specs.Inner.Guess.{Guesses}
 use Rattle.listing.specs.Inner.Entry.{row_entry_of, row_entry_at, row_text_at}
 use Rattle.listing.specs.Inner.Encode.{line_read, word_count, jump_word, jump_words, plain_words, opcode_in, encoded, first_words, memory_as}
 use Rattle.listing.proofs.Table.{base-low}
-use Rattle.listing.proofs.Lines.{text-length}
 use Rattle.listing.proofs.Entries.{entry_in, entry-of-words}
 use Rattle.listing.proofs.Back.{read-row, read-16}
 use Rattle.listing.proofs.EntryWith.{entry_with, cut_with, entry-with, cut-with, Trip}

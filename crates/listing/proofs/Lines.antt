@@ -1,5 +1,5 @@
 -- The bytes of a line, one after the other.
-use Rattle.std.proofs.Common.{ℕ, ◌+◌, ◌%◌, ◌<◌, ◌≤◌, ◌≡◌, refl, ap, ◌&&◌, List, [], ◌∷◌, ◌++◌, length, get_or, take, drop, set, add-one, zero-add, arith}
+use Rattle.std.proofs.Common.{ℕ, ◌+◌, ◌%◌, ◌<◌, ◌≡◌, refl, ap, ◌&&◌, List, [], ◌∷◌, ◌++◌, length, get_or, take, drop, set, add-one, zero-add, arith}
 use Rattle.std.proofs.lemmas.List.{length-map, get_or-map}
 use lib.Dec.{eqb, lit<}
 use lib.Seq.{paste-suc, take-length}

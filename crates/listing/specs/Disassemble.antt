@@ -1,14 +1,13 @@
 -- Document 01, "Listing lines": "The lister takes an address and D, answers text length, words used and next D". The memory is a reader,
 -- from an address to the word there.
-use Rattle.std.specs.Prelude.{ℕ, Bool, false, cond, List, ◌++◌, ltb, length, drop, Result}
+use Rattle.std.specs.Prelude.{ℕ, Bool, false, cond, List, ◌++◌, ltb, length, drop, Result, Option, None, Some}
 use Rattle.refusal.specs.declared.Refusal.{Refusal}
 use Rattle.refusal.specs.declared.Refusal.TheVariants.{TextRoomTooSmall}
 use Rattle.refusal.specs.Refusals.{refusal_number}
 use Rattle.refusal.specs.Report.{Report, refused}
 use Rattle.word.specs.Word.{wrap_add}
 use Rattle.memory.specs.Bus.{Bus, read_of, admission_of, unless_barred}
-use Rattle.decode.specs.declared.Decoded.{Decoded}
-use Rattle.decode.specs.declared.Decoded.TheVariants.{Unspecified, Known}
+use Rattle.decode.specs.declared.Instr.{Instr}
 use Rattle.decode.specs.Decode.{decode_at}
 use Rattle.decode.specs.Rows.{row_of}
 use Rattle.text.specs.Text.{codes, hex_of}
@@ -27,9 +26,9 @@ abbrev pub decle_entry : Entry
 decle_entry = record { text = codes "DECLE $0004"; words = 1; double = false }
 
 -- the entry of what is decoded, with the words a and b after the opcode: words used and next D are the row table's
-abbrev pub entry_of : Decoded → Bool → ℕ → ℕ → Entry
-entry_of Unspecified double a b = decle_entry
-entry_of (Known i) double a b =
+abbrev pub entry_of : Option Instr → Bool → ℕ → ℕ → Entry
+entry_of None double a b = decle_entry
+entry_of (Some i) double a b =
     record {
       text = line_of i (hex_of (line_operand (row_of i double).words a b)) a b;
       words = (row_of i double).words;

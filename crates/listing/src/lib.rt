@@ -8,7 +8,6 @@ ghost use Rattle.listing.specs.Disassemble.{disassembly, disassemble_of};
 ghost use Rattle.listing.specs.Assemble.{assemble_of};
 ghost use Rattle.listing.specs.Inner.Encode.{first_words};
 
-use memory::Admission;
 use memory::map::Board;
 use refusal::Refusal;
 
@@ -19,7 +18,7 @@ mod line;
 mod rows;
 
 // What the disassembler answers: the text's length, the words used, and D for the next address.
-#[derive(Clone, Copy)]
+#[derive(Clone, Copy, PartialEq, Eq)]
 pub struct Listed {
     pub length: usize,
     pub words: u16,
@@ -27,7 +26,7 @@ pub struct Listed {
 }
 
 // What the assembler answers: the line's words.
-#[derive(Clone, Copy)]
+#[derive(Clone, Copy, PartialEq, Eq)]
 pub enum Assembly {
     One(u16),
     Two(u16, u16),
@@ -47,10 +46,7 @@ pub fn disassemble(
 ) -> Result<Listed, Refusal>
     ensures { disassembly result text.new ≡ disassemble_of (bus_on board mem.now) at double text.old }
 {
-    let admission = memory::admit(board, mem);
-    if let Admission::Barred(refusal) = admission {
-        return Err(refusal);
-    }
+    memory::admit(board, mem)?;
     if text.len() < TEXT_ROOM {
         return Err(Refusal::TextRoomTooSmall);
     }

@@ -1,6 +1,5 @@
 -- `read`: the loop's invariant is that what is left of template and text, read from the line so far, gives the line read from all.
-use Rattle.std.proofs.Common.{◌≡◌, sym, ◌∙◌, inl, inr}
-use Rattle.listing.specs.Inner.Encode.{line_read}
+use Rattle.std.proofs.Common.{sym, ◌∙◌, inl, inr}
 use Rattle.listing.proofs.Reading.{literal, past-template, past-text}
 use Rattle.listing.proofs.encode.read.Goals as goal
 

@@ -1,6 +1,5 @@
 -- `encode::taken`: a digit has a value below 16.
 use Rattle.std.proofs.Common.{arith}
-use Rattle.std.proofs.lemmas.Bool.Decides.{nat_tests}
 use Rattle.text.proofs.Digits.{digit-laws}
 use Rattle.listing.proofs.encode.taken.Goals as goal
 

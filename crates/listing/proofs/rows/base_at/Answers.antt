@@ -1,5 +1,5 @@
 -- `rows::base_at`: the opcodes of the code's table are those of the definition's.
-use mathlib.Core.Path.{◌≡◌, refl}
+use mathlib.Core.Path.{refl}
 use lib.ListN.{get_or-map}
 use Rattle.listing.specs.declared.rows.TableRow.{TableRow}
 use Rattle.listing.specs.Inner.Rows.{rows}

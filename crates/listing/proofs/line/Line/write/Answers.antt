@@ -1,5 +1,5 @@
 -- `Line::write`: the loop's invariant is that the first i bytes of the room are the line's, and the others as they were.
-use Rattle.std.proofs.Common.{◌≡◌, sym, ap, ◌∙◌, ◌<◌, arith, length, get_or, take, drop, ◌++◌}
+use Rattle.std.proofs.Common.{◌≡◌, sym, ap, ◌∙◌, ◌<◌, arith, length, get_or}
 use borrow.Author.Tests.{lt-ltb, le-ltb}
 use Rattle.listing.specs.Inner.Rows.{template_of}
 use Rattle.listing.specs.Inner.Line.{glyph_of, text_of}

@@ -1,4 +1,4 @@
-use Rattle.std.proofs.Common.{◌≡◌, ◌++◌, length, take, drop}
+use Rattle.std.proofs.Common.{◌≡◌, ◌++◌, take, drop}
 use Rattle.listing.specs.Inner.Line.{text_of}
 use Rattle.listing.proofs.line.Line.write.Given as goal
 

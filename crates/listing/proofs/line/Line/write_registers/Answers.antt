@@ -1,7 +1,6 @@
 -- `Line::write_registers`: the template's ten bytes with the two digits in them are the line's.
-use Rattle.std.proofs.Common.{◌≡◌, refl, sym, arith, length, take}
+use Rattle.std.proofs.Common.{sym, arith}
 use Rattle.std.proofs.lemmas.List.{length-take-le}
-use Rattle.listing.specs.Inner.Rows.{template_of}
 use Rattle.listing.proofs.Table.{registers-template}
 use Rattle.listing.proofs.Lines.{registers-text, registers-length}
 use Rattle.listing.proofs.line.Line.write_registers.Goals as goal
