@@ -72,21 +72,28 @@ fn follow(
         let instr = decode::instruction(fetched.word % 1024);
         let decoded = decode::specified_at(board, near, mem, node.address, instr, node.double);
         let ways = ways::ways_of(board, near, mem, node, decoded);
-        node = match ways {
+        // Each way marks its own node: with one mark for both the compiler packs a node into one number, which takes 5 machine instructions more a node.
+        match ways {
             Ways::End => return,
             Ways::Writes => {
                 bitset::insert(writers, node.address);
                 return;
             }
-            Ways::One(next) => next,
+            Ways::One(next) => {
+                let new = mark(clear, set, next);
+                if !new {
+                    return;
+                }
+                node = next;
+            }
             Ways::Two(next, target) => {
                 push(clear, stack, target);
-                next
+                let new = mark(clear, set, next);
+                if !new {
+                    return;
+                }
+                node = next;
             }
-        };
-        let new = mark(clear, set, node);
-        if !new {
-            return;
         }
     }
 }

@@ -99,6 +99,8 @@ pub(crate) fn ways_of(
             let displacement = memory::read(board, near, mem, word::wrapping_add(at, 1));
             branch_ways(next, fields::branch_target(at, b, displacement), b)
         }
+        // The rows of one or two words apart: so the compiler takes the 1 for a constant, which saves two machine instructions a node.
+        Instr::Store(..) | Instr::Read(..) => Ways::One(next),
         _ => Ways::One(next),
     }
 }
