@@ -10,8 +10,9 @@ ghost use Rattle.meter.specs.Meter.{wait_of, scan_admission, region_of, region_r
 use crate::scan::Region;
 use crate::walk::Limit;
 use memory::map::Board;
-use memory::near;
+use memory::near::View;
 use refusal::Refusal;
+use std::ops::ControlFlow;
 
 mod scan;
 mod walk;
@@ -49,11 +50,7 @@ pub fn wait(board: Board, mem: &[u16], address: u16, limit: u16) -> Result<Walke
 {
     memory::admit(board, mem)?;
     let limit = Limit::given(limit)?;
-    let view = View {
-        board,
-        near: near::near_to(board, near::no_range(), address),
-        words: mem,
-    };
+    let view = View::at(board, mem, address);
     let mut place = walk::start_at(address);
     loop {
         match walk::turn_at(&view, limit, place) {

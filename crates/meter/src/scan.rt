@@ -12,7 +12,6 @@ ghost use Rattle.meter.specs.Inner.Stretch.{named_with, starts_in, StretchAdds};
 use crate::walk::Limit;
 use crate::{Findings, LongestWait, Walked, walk};
 use memory::map::Board;
-use memory::near;
 use memory::near::View;
 use std::ops::ControlFlow;
 
@@ -70,11 +69,7 @@ pub(crate) fn stretch(
 ) -> Findings
     ensures { StretchAdds (starts_in starts) (walk_from (read_of (bus_on board mem.now)) region.limit.cycles) region.first (suc region.last) (named_in before) (named_in result) }
 {
-    let view = View {
-        board,
-        near: near::near_to(board, near::no_range(), region.first),
-        words: mem,
-    };
+    let view = View::at(board, mem, region.first);
     let mut findings = before;
     // 64 bits wide like `starts`, so that no turn widens it
     'scan: for address in region.first as u64..=region.last as u64 {
