@@ -1,40 +1,26 @@
 // The meter for a region: its call, and its answer compared with what a case tells.
 use crate::rows;
 use harness::{answer, fields, map};
-use meter::{LongestWait, LowestOver, RegionAnswer};
+use meter::{Findings, LongestWait};
+use refusal::Refusal;
 
-fn tells_longest(after: &[u8], longest: LongestWait) -> bool {
-    let longest_told = fields::has(after, b"longest");
-    let start_told = fields::has(after, b"start");
+fn tells_longest(after: &[u8], longest: Option<LongestWait>) -> bool {
+    let cycles = fields::find_number(after, b"longest");
+    let start = fields::find_word(after, b"start");
     match longest {
-        LongestWait::NoWait => !longest_told & !start_told,
-        LongestWait::Cycles { cycles, start, .. } => {
-            longest_told
-                & start_told
-                & (fields::number(after, b"longest", 0) == cycles as u64)
-                & (fields::word(after, b"start", 0) == start)
-        }
+        None => cycles.is_none() & start.is_none(),
+        Some(wait) => (cycles == Some(u64::from(wait.cycles))) & (start == Some(wait.start)),
     }
 }
 
-fn tells_lowest(after: &[u8], lowest: LowestOver) -> bool {
-    let told = fields::has(after, b"over");
-    match lowest {
-        LowestOver::NoOver => !told,
-        LowestOver::At { start, .. } => told & (fields::word(after, b"over", 0) == start),
-    }
-}
-
-fn tells_answer(after: &[u8], given: RegionAnswer) -> bool {
+fn tells_answer(after: &[u8], given: Result<Findings, Refusal>) -> bool {
     match given {
-        RegionAnswer::Refused(why) => answer::refuses(after, refusal::number(why)),
-        RegionAnswer::Found {
-            longest,
-            lowest,
-            ..
-        } => {
-            !answer::is_refused(after) & tells_longest(after, longest) & tells_lowest(after, lowest)
+        Ok(found) => {
+            !answer::is_refused(after)
+                & tells_longest(after, found.longest)
+                & (fields::find_word(after, b"over") == found.lowest)
         }
+        Err(why) => answer::refuses(after, refusal::number(why)),
     }
 }
 
