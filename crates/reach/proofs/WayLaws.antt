@@ -10,8 +10,7 @@ use Rattle.memory.specs.Bus.{bus_on, read_of}
 use Rattle.memory.specs.Near.{in_front, no_range, near_of, Near}
 use Rattle.memory.proofs.NearLaws.{near-laws}
 use Rattle.decode.specs.declared.Instr.{Instr}
-use Rattle.decode.specs.declared.Decoded.{Decoded}
-use Rattle.decode.specs.declared.Decoded.TheVariants.{Known}
+use Rattle.std.proofs.Common.{Option, Some}
 use Rattle.decode.specs.declared.rows.Row.{Row}
 use Rattle.decode.specs.Fields.{opcode_of}
 use Rattle.decode.specs.Decode.{instruction_of, writes_r7, specified, decode_at}
@@ -34,7 +33,7 @@ near_on b near a k e = rw e (near-laws.moves b near a k)
 
 -- what the code decodes with a range at hand is what stands there
 pub ways_on :
-    (b : Board) (near : Range) (m : List ℕ) (n : Node) {near' : Range} {w : ℕ} {i : Instr} {x : Decoded} {ways : Ways} → Near b near → near' ≡ near_of b near n.address →
+    (b : Board) (near : Range) (m : List ℕ) (n : Node) {near' : Range} {w : ℕ} {i : Instr} {x : Option Instr} {ways : Ways} → Near b near → near' ≡ near_of b near n.address →
     w ≡ read_of (bus_on (in_front near b) m) n.address → i ≡ instruction_of (opcode_of w) → x ≡ specified (read_of (bus_on (in_front near' b) m)) n.address i n.double →
     WaysFrom (read_of (bus_on (in_front near' b) m)) n x ways → Turn (read_of (bus_on b m)) n ways
 unfolding successors writes_at
@@ -46,12 +45,12 @@ ways_on b near m n {near'} {w} {x = x} k e f g h q =
     record { nodes = q.nodes ∙ rw (s, d); writes = q.writes ∙ ap decoded_writes d }
 
 -- an instruction that writes R7, and one that ends the path otherwise
-pub ways-write : (read : ℕ → ℕ) (n : Node) {x : Decoded} {i : Instr} {w : Bool} → x ≡ Known i → w ≡ writes_r7 i → w ≡ true → WaysFrom read n x Writes
+pub ways-write : (read : ℕ → ℕ) (n : Node) {x : Option Instr} {i : Instr} {w : Bool} → x ≡ Some i → w ≡ writes_r7 i → w ≡ true → WaysFrom read n x Writes
 ways-write read n {x} {i} e f g =
     let h : writes_r7 i ≡ true = sym f ∙ g in
     rw e (record { nodes = sym (cond-true _ _ (ap (λ (b : Bool). (row_of i n.double).halts || b) h ∙ or-true (row_of i n.double).halts true refl)); writes = sym h })
 
-module _ (read : ℕ → ℕ) (n : Node) {x : Decoded} {i : Instr} {row : Row} {w : Bool} (e : x ≡ Known i) (f : w ≡ writes_r7 i) (g : w ≡ false) (h : row ≡ row_of i n.double) where
+module _ (read : ℕ → ℕ) (n : Node) {x : Option Instr} {i : Instr} {row : Row} {w : Bool} (e : x ≡ Some i) (f : w ≡ writes_r7 i) (g : w ≡ false) (h : row ≡ row_of i n.double) where
   quiet : writes_r7 i ≡ false
   quiet = sym f ∙ g
 

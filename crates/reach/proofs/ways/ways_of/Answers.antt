@@ -1,5 +1,6 @@
 -- `ways_of`: an unspecified form, HLT and a write to R7 end the path; else by the kind of the instruction.
 use mathlib.Core.Path.{refl}
+use Rattle.std.proofs.Common.{arith}
 use Rattle.memory.specs.Bus.{bus_on, read_of}
 use Rattle.memory.specs.Near.{in_front}
 use Rattle.reach.specs.declared.ways.Ways.{Ways}
@@ -13,47 +14,20 @@ pub returns-in_default : goal.returns-in_default
 returns-in_default c = rw c.in_default.is (record { nodes = refl; writes = refl })
 
 pub returns-then-writes : goal.returns-then-writes
-returns-then-writes c = ways-write _ _ c.in-Known.is c.writes_r7-writes.ensures c.if-writes.true
+returns-then-writes c = ways-write _ _ c.in-Some.is c.writes_r7-writes.ensures c.if-writes.true
 
 pub returns-then-row : goal.returns-then-row
-returns-then-row c = ways-halt _ _ c.in-Known.is c.writes_r7-writes.ensures c.if-writes.false c.row_of-row.ensures c.if-row.true
+returns-then-row c = ways-halt _ _ c.in-Some.is c.writes_r7-writes.ensures c.if-writes.false c.row_of-row.ensures c.if-row.true
 
 -- what has not ended the path goes on
-goes : (c : After-onward-next) {ways : Ways} → GoesTo (instruction_ways (read_of (bus_on (in_front c.args.near c.args.board) c.args.mem.now)) c.args.node c.row_of-row.result c.in-Known.instr) ways → WaysFrom (read_of (bus_on (in_front c.args.near c.args.board) c.args.mem.now)) c.args.node c.args.decoded ways
-goes c l = ways-go _ _ c.in-Known.is c.writes_r7-writes.ensures c.if-writes.false c.row_of-row.ensures c.if-row.false l
-
-pub returns-in-Hlt : goal.returns-in-Hlt
-returns-in-Hlt c = goes (goal.at.returns-in-Hlt c).After-onward-next (rw (c.in-Hlt.is, ← c.onward-next.ensures) (record { nodes = refl; writes = refl }))
-
-pub returns-in-Control : goal.returns-in-Control
-returns-in-Control c = goes (goal.at.returns-in-Control c).After-onward-next (rw (c.in-Control.is, ← c.onward-next.ensures) (record { nodes = refl; writes = refl }))
+goes : (c : After-onward-next) {ways : Ways} → GoesTo (instruction_ways (read_of (bus_on (in_front c.args.near c.args.board) c.args.mem.now)) c.args.node c.row_of-row.result c.in-Some.instr) ways → WaysFrom (read_of (bus_on (in_front c.args.near c.args.board) c.args.mem.now)) c.args.node c.args.decoded ways
+goes c l = ways-go _ _ c.in-Some.is c.writes_r7-writes.ensures c.if-writes.false c.row_of-row.ensures c.if-row.false l
 
 pub returns-in-Jump : goal.returns-in-Jump
 returns-in-Jump c = goes (goal.at.returns-in-Jump c).After-onward-next (rw (c.in-Jump.is, ← c.wrapping_add.ensures, ← c.read-second.ensures, ← c.wrapping_add-in-Jump.ensures, ← c.read-third.ensures, ← c.jump_target.ensures, ← c.onward-next.ensures) c.jump_ways.ensures)
 
-pub returns-in-Single : goal.returns-in-Single
-returns-in-Single c = goes (goal.at.returns-in-Single c).After-onward-next (rw (c.in-Single.is, ← c.onward-next.ensures) (record { nodes = refl; writes = refl }))
-
-pub returns-in-Gswd : goal.returns-in-Gswd
-returns-in-Gswd c = goes (goal.at.returns-in-Gswd c).After-onward-next (rw (c.in-Gswd.is, ← c.onward-next.ensures) (record { nodes = refl; writes = refl }))
-
-pub returns-in-Nop : goal.returns-in-Nop
-returns-in-Nop c = goes (goal.at.returns-in-Nop c).After-onward-next (rw (c.in-Nop.is, ← c.onward-next.ensures) (record { nodes = refl; writes = refl }))
-
-pub returns-in-Sin : goal.returns-in-Sin
-returns-in-Sin c = goes (goal.at.returns-in-Sin c).After-onward-next (rw (c.in-Sin.is, ← c.onward-next.ensures) (record { nodes = refl; writes = refl }))
-
-pub returns-in-Shift : goal.returns-in-Shift
-returns-in-Shift c = goes (goal.at.returns-in-Shift c).After-onward-next (rw (c.in-Shift.is, ← c.onward-next.ensures) (record { nodes = refl; writes = refl }))
-
-pub returns-in-Register : goal.returns-in-Register
-returns-in-Register c = goes (goal.at.returns-in-Register c).After-onward-next (rw (c.in-Register.is, ← c.onward-next.ensures) (record { nodes = refl; writes = refl }))
-
 pub returns-in-Branch : goal.returns-in-Branch
 returns-in-Branch c = goes (goal.at.returns-in-Branch c).After-onward-next (rw (c.in-Branch.is, ← c.wrapping_add-in-Branch.ensures, ← c.read-displacement.ensures, ← c.branch_target.ensures, ← c.onward-next.ensures) c.branch_ways.ensures)
 
-pub returns-in-Store : goal.returns-in-Store
-returns-in-Store c = goes (goal.at.returns-in-Store c).After-onward-next (rw (c.in-Store.is, ← c.onward-next.ensures) (record { nodes = refl; writes = refl }))
-
-pub returns-in-Read : goal.returns-in-Read
-returns-in-Read c = goes (goal.at.returns-in-Read c).After-onward-next (rw (c.in-Read.is, ← c.onward-next.ensures) (record { nodes = refl; writes = refl }))
+pub returns-in_default-instr : goal.returns-in_default-instr
+returns-in_default-instr c = goes (goal.at.returns-in_default-instr c).After-onward-next (record { nodes = grind arith; writes = refl })
