@@ -1,24 +1,10 @@
-// Runs of words: filled, compared, and told by the fields of a row, as `0100=02E4,0005`.
-ghost use Rattle.std.specs.Prelude.{◌≡◌, ◌*◌, true, length, drop, replicate, slice_set};
+// Runs of words as the fields of a row tell them: `0100=02E4,0005`.
+ghost use Rattle.std.specs.Prelude.{◌≡◌, ◌*◌, drop, slice_set};
 ghost use Rattle.harness.specs.Text.{hex_number};
 ghost use Rattle.harness.specs.Words.{words_in_list, tells_words, with_list_at, with_first, with_words, is_inside, are_inside};
 
 use crate::fields::Fields;
 use crate::{fields, form, text};
-
-// Puts one word at every place.
-pub fn fill(run: &mut [u16], word: u16)
-    ensures { run.new ≡ replicate (length run.old) word }
-{
-    run.fill(word)
-}
-
-// Whether both runs have the same words.
-pub fn same(a: &[u16], b: &[u16]) -> bool
-    ensures { (result ≡ true → a.now ≡ b.now) × (a.now ≡ b.now → result ≡ true) }
-{
-    a == b
-}
 
 pub fn list_length(list: &[u8]) -> usize
     ensures { result ≡ words_in_list list.now }
