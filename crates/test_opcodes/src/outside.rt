@@ -52,15 +52,20 @@ fn is_as_written(rt: &impl Print, row: &[u8]) -> bool {
     ];
     let wanted = text::from_column(row, 25);
     let Some(found) = line::line_of(memory, double) else {
-        return judged(rt, row, [(false, " text"), (true, ""), (true, ""), (true, "")]);
+        return judged(
+            rt,
+            row,
+            [(false, " text"), (true, ""), (true, ""), (true, "")],
+        );
     };
     let words = found.listed.words;
+    let assembly = line::assembly_of(memory, words);
     let tests = [
         (is_shaped(row), " malformed"),
         (found.text() == wanted, " text"),
         (u64::from(words) == text::decimal(row, 21, 1), " words"),
         (
-            listing::assemble(wanted, double) == Ok(line::assembly_of(memory, words)),
+            listing::assemble(wanted, double).is_ok_and(|found| found == assembly),
             " assembled",
         ),
     ];

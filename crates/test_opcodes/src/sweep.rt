@@ -38,6 +38,7 @@ fn count(counts: &mut [Count; 7], memory: [u16; 3], double: bool) {
         return;
     };
     let words = line.listed.words;
+    let assembly = assembly_of(memory, words);
     let answer = listing::assemble(line.text(), double);
     let tests = [
         true,
@@ -45,7 +46,7 @@ fn count(counts: &mut [Count; 7], memory: [u16; 3], double: bool) {
         words == 2,
         words == 3,
         line.listed.double,
-        answer == Ok(assembly_of(memory, words)),
+        answer.is_ok_and(|found| found == assembly),
         is_listed_alike(line, answer, double),
     ];
     for (count, test) in counts.iter_mut().zip(tests) {

@@ -10,7 +10,10 @@ use refusal::Refusal;
 const STRANGE: u8 = b'?';
 
 fn is_refused(text: &[u8], double: bool) -> bool {
-    listing::assemble(text, double) == Err(Refusal::NotAListingLine)
+    matches!(
+        listing::assemble(text, double),
+        Err(Refusal::NotAListingLine)
+    )
 }
 
 // Whether the text with another byte at a place is refused.
@@ -52,9 +55,7 @@ fn count(tallies: &mut Tallies, text: &[u8], double: bool)
             .strange
             .add(is_refused_with(text, at, STRANGE, double));
         if byte.is_ascii_uppercase() {
-            tallies
-                .small
-                .add(is_refused_with(text, at, byte.to_ascii_lowercase(), double));
+            tallies.small.add(is_refused_with(text, at, byte.to_ascii_lowercase(), double));
         }
     }
     for at in 0..=text.len() {

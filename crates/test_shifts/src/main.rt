@@ -23,10 +23,12 @@ fn quiet() -> Lines {
 
 // An instruction was executed, in so many cycles.
 fn agree_answer(rt: &impl Print, given: Result<Done, Refusal>, expected: u64) -> bool {
-    let Ok(Done {
-        kind: Kind::Executed,
-        cycles,
-    }) = given
+    let Ok(
+        Done {
+            kind: Kind::Executed,
+            cycles,
+        },
+    ) = given
     else {
         return case::agree(rt, "the answer", false);
     };
