@@ -24,6 +24,7 @@
 //     letter(fields, key, byte, default)    whether the letter stands in its value, or the default
 //     form::fit(fields, form)       whether each field is one of the form's, its value is as the form says, and no key stands twice
 //     words::put(memory, fields)    puts the words of all fields `0100=02E4,0005` into a memory
+//     words::lay(memory, fields)    fills the memory with the word of the field `fill`, and puts the words of all fields into it
 //     words::are_inside(fields, size)       whether these words lie inside a memory of so many words
 //     words::list_length(value), words::list_word(value, index)     how many words a list of words has, and one of them
 //     words::put_list(memory, address, value)     puts the words of a list into a memory

@@ -56,8 +56,7 @@ pub(crate) fn is_well(before: &[u8], after: &[u8]) -> bool {
     let mut memory = [0u16; MEMORY_ROOM];
     let mut text = [BLANK; TEXT_ROOM];
     let mut wanted = [BLANK; TEXT_ROOM];
-    memory.fill(fields::word(before, b"fill", 0x5A5A));
-    words::put(&mut memory, before);
+    words::lay(&mut memory, before);
     put_text(&mut wanted, fields::value(after, b"text"));
     let formed = is_formed(before, after);
     let listed = is_listed(&memory, &mut text, before, after);

@@ -7,8 +7,8 @@ mod rows;
 mod waits;
 
 use crate::rows::Call;
-use harness::cases;
 use harness::cases::Case;
+use harness::{cases, words};
 
 // One word more than the meter takes, for the cases that lend too much.
 const MEMORY_ROOM: usize = 65537;
@@ -21,7 +21,7 @@ fn is_well(case: Case, memory: &mut [u16]) -> bool {
     let Some(memory) = memory.get_mut(..rows::size_of(before)) else {
         return false;
     };
-    rows::lay(memory, before);
+    words::lay(memory, before);
     match call {
         Call::Wait => waits::agree(memory, before, after),
         Call::Region => regions::agree(memory, before, after),

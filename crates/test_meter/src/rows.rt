@@ -68,9 +68,3 @@ pub(crate) fn size_of(before: &[u8]) -> usize {
 pub(crate) fn limit_of(before: &[u8]) -> u16 {
     (fields::number(before, b"limit", 0) % 65536) as u16
 }
-
-// Makes the memory that the call is given: the case's words, and one word elsewhere.
-pub(crate) fn lay(memory: &mut [u16], before: &[u8]) {
-    memory.fill(fields::word(before, b"fill", 0x5A5A));
-    words::put(memory, before);
-}

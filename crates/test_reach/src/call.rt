@@ -1,6 +1,6 @@
 // Makes the call of a case, and compares the answer and all that was lent with what the case says.
 use crate::{build, row, tell};
-use harness::map;
+use harness::{findings, map};
 
 // A set is built, and the buffers get its members and no other bit.
 pub(crate) fn reach_is_well(before: &[u8], after: &[u8]) -> bool {
@@ -44,7 +44,7 @@ pub(crate) fn region_is_well(before: &[u8], after: &[u8]) -> bool {
         &clear[..clear_words],
         &set[..set_words],
     );
-    row::is_region(before, after) & tell::tells_region(after, answer)
+    row::is_region(before, after) & findings::are_told(after, answer)
 }
 
 // A set is built, and a region's members of it are metered.
@@ -62,5 +62,5 @@ pub(crate) fn both_are_well(before: &[u8], after: &[u8]) -> bool {
     let last = row::last_of(before);
     let limit = row::limit_of(before);
     let answer = meter::region_reached(board, lent, first, last, limit, &clear, &set);
-    row::is_both(before, after) & tell::tells_region(after, answer)
+    row::is_both(before, after) & findings::are_told(after, answer)
 }

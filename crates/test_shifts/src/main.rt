@@ -4,22 +4,13 @@
 
 mod rows;
 
-use cpu::{Done, Kind, Lines};
+use cpu::{Done, Kind};
 use harness::tally::Tally;
 use harness::text::Rows;
 use harness::{case, cases, fields, machine, text};
 use listing::Assembly;
 use memory::map;
 use refusal::Refusal;
-
-// Nothing is requested.
-fn quiet() -> Lines {
-    Lines {
-        intrm: true,
-        busrq: true,
-        external: 0,
-    }
-}
 
 // An instruction was executed, in so many cycles.
 fn agree_answer(rt: &impl Print, given: Result<Done, Refusal>, expected: u64) -> bool {
@@ -38,7 +29,7 @@ fn agree_answer(rt: &impl Print, given: Result<Done, Refusal>, expected: u64) ->
 // Makes the step, and compares all that it leaves with what the row says.
 fn step_agrees(rt: &impl Print, row: &[u8], opcode: u16) -> bool {
     let mut memory = [opcode];
-    let stepped = cpu::step(rows::before(row), map::all_ram(), &mut memory, quiet());
+    let stepped = cpu::step(rows::before(row), map::all_ram(), &mut memory, machine::QUIET);
     machine::agree(rt, stepped.state, rows::after(row))
         & agree_answer(rt, stepped.answer, fields::number(row, b"cycles", 0))
         & case::agree(rt, "the memory", memory[0] == opcode)

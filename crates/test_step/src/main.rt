@@ -10,7 +10,7 @@ use crate::answer::Answer;
 use crate::rows::Call;
 use cpu::State;
 use harness::cases::Case;
-use harness::{case, cases, machine};
+use harness::{case, cases, machine, words};
 
 // One word more than a step takes, for the cases that lend too much.
 const MEMORY_ROOM: usize = 65537;
@@ -65,7 +65,7 @@ fn call_agrees(
     memory: &mut [u16],
     expected: &mut [u16],
 ) -> bool {
-    rows::lay_before(memory, before);
+    words::lay(memory, before);
     rows::lay_after(expected, before, after);
     let left = match call {
         Call::Step => step_from(before, memory),

@@ -75,15 +75,9 @@ pub(crate) fn board_of(before: &[u8]) -> Board {
     map::board(before, b"map")
 }
 
-// Makes the memory that the call is given: the case's words, and one word elsewhere.
-pub(crate) fn lay_before(memory: &mut [u16], before: &[u8]) {
-    memory.fill(fields::word(before, b"fill", 0x5A5A));
-    words::put(memory, before);
-}
-
-// Makes the memory that the call should leave: the same, with the case's stores.
+// Makes the memory that the call should leave: what it is given, with the case's stores.
 pub(crate) fn lay_after(memory: &mut [u16], before: &[u8], after: &[u8]) {
-    lay_before(memory, before);
+    words::lay(memory, before);
     words::put(memory, after);
 }
 

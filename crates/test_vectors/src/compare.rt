@@ -1,7 +1,8 @@
 // Runs a vector through the step, and compares.
 use crate::vector;
 use crate::vector::{Flags, Memory, Vector};
-use cpu::{Done, Kind, Lines, Status};
+use cpu::{Done, Kind, Status};
+use harness::machine;
 use memory::map;
 use refusal::Refusal;
 
@@ -42,19 +43,10 @@ fn executed_in(answer: Result<Done, Refusal>, cycles: u16) -> bool {
     }
 }
 
-// Nothing is requested, and every external input is 0.
-fn quiet_lines() -> Lines {
-    Lines {
-        intrm: true,
-        busrq: true,
-        external: 0,
-    }
-}
-
 // The whole of both memories is compared, so that a store which the vector does not have is seen, wherever it goes.
 fn run_vector(vector: Vector, memory: &mut Memory, expected: &Memory) -> Differences {
     let after = vector.after;
-    let stepped = cpu::step(vector.before, map::all_ram(), memory, quiet_lines());
+    let stepped = cpu::step(vector.before, map::all_ram(), memory, machine::QUIET);
     let state = stepped.state;
     Differences {
         registers: state.registers != after.registers,

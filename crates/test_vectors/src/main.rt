@@ -16,10 +16,8 @@ fn run_lines(rt: &impl Print, text: &[u8]) -> Tally {
         mismatches: 0,
         malformed: 0,
     };
-    let mut lines: u64 = 0;
-    for line in Rows::of(text) {
-        tally = report::count(rt, tally, lines, compare::run_line(line));
-        lines += 1;
+    for (lines, line) in Rows::of(text).enumerate() {
+        tally = report::count(rt, tally, lines as u64, compare::run_line(line));
     }
     tally
 }

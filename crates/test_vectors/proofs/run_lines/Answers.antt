@@ -1,15 +1,13 @@
--- `run_lines`: as many lines were read as rows have come, and no text has more rows than bytes.
-use Rattle.std.proofs.Common.{◌≡◌, ◌+◌, ◌≤◌, length, ap, arith}
+-- `run_lines`: the number of a line fits, since no text has more rows than bytes.
+use Rattle.std.proofs.Common.{◌≡◌, ◌≤◌, inl, length, ap, arith}
+use Rattle.std.specs.Iterator.Adapters.{enumerate_count}
+use Rattle.harness.specs.Text.{rows_of, rows_left}
 use Rattle.harness.proofs.RowLaws.{rows-few}
-use Rattle.harness.specs.Text.{rows_left}
 use Rattle.test_vectors.proofs.run_lines.Goals as goal
 
-pub count-tally-requires : goal.count-tally-requires
-count-tally-requires g c =
-    let more = ap length c.in-Some.ensures.steps in
-    (c.loop-line.invariant.1, omega (arith, more, c.loop-line.invariant.0, rows-few c.args.text.now))
-
-pub overflow_add-lines : goal.overflow_add-lines
-overflow_add-lines g c =
-    let more = ap length c.in-Some.ensures.steps in
-    omega (arith, more, c.loop-line.invariant.0, rows-few c.args.text.now)
+pub loop-lines-init-derived : goal.loop-lines-init-derived
+loop-lines-init-derived g c =
+    let few = rows-few c.args.text.now in
+    let none : enumerate_count c.into_iter-lines-iterator.result ≡ 0 = cc in
+    let all : length (rows_left c.into_iter-lines-iterator.result.iter) ≡ length (rows_of c.args.text.now) = ap length cc in
+    ((tt, tt, inl (omega (arith, few, none, all))), tt)

@@ -1,8 +1,6 @@
-use Rattle.std.proofs.Common.{◌≡◌, ◌+◌, length}
-use Rattle.harness.specs.Text.{rows_of, rows_left}
+use Rattle.std.specs.Iterator.Adapters.{enumerate_count}
 use Rattle.test_vectors.specs.Count.{Counted}
 use Rattle.test_vectors.proofs.run_lines.Given as goal
 
-abbrev pub invariant-loop-line : goal.invariant-loop-line
-invariant-loop-line g l =
-    (l.lines + length (rows_left l.line-iterator) ≡ length (rows_of l.text)) × Counted l.lines l.tally
+abbrev pub invariant-loop-lines : goal.invariant-loop-lines
+invariant-loop-lines g l = Counted (enumerate_count l.lines-iterator) l.tally
