@@ -33,3 +33,14 @@ pub rows-of-none : (text : List ℕ) → length text ≤ 0 → rows_of text ≡ 
 unfolding rows_of rows_by
 rows-of-none [] h = refl
 rows-of-none (b ∷ text) h = absurd (omega arith)
+
+by-few : (n : ℕ) (text : List ℕ) → length (rows_by n text) ≤ n
+unfolding rows_by
+by-few zero text = omega arith
+by-few (suc n) [] = omega arith
+by-few (suc n) (b ∷ text) = omega (arith, by-few n (after_first_row (b ∷ text)))
+
+-- no text has more rows than bytes
+pub rows-few : (text : List ℕ) → length (rows_of text) ≤ length text
+unfolding rows_of
+rows-few text = by-few (length text) text

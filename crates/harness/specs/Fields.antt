@@ -1,7 +1,7 @@
 -- Rows of named fields: `key=value`, separated by blanks.
 use Rattle.std.specs.Prelude.{ℕ, zero, suc, Bool, cond, ◌&&◌, List, [], ◌∷◌, length, ◌==◌, slice_index, is_some, Option, Some, None}
 use Rattle.std.specs.List.{find}
-use Rattle.std.specs.Option.{unwrap_or}
+use Rattle.std.specs.Option.{unwrap_or, option_map}
 use Prim.Native.Char.{code}
 use Rattle.harness.specs.declared.fields.Fields.{Fields}
 use Rattle.harness.specs.Text.{quoted, part_before, part_behind, starts_with, equal_text, stands_in, hex_number, decimal_number}
@@ -61,11 +61,17 @@ first_value row = part_behind (code "=") (first_field row)
 abbrev pub value_of_key : List ℕ → List ℕ → List ℕ
 value_of_key row key = first_value (from_key row key)
 
+abbrev pub find_word_of_key : List ℕ → List ℕ → Option ℕ
+find_word_of_key row key = option_map (λ field. hex_number 4 (first_value field)) (find_key row key)
+
 abbrev pub word_of_key : List ℕ → List ℕ → ℕ → ℕ
-word_of_key row key default = cond (has_key row key) (hex_number 4 (value_of_key row key)) default
+word_of_key row key default = unwrap_or (find_word_of_key row key) default
+
+abbrev pub find_number_of_key : List ℕ → List ℕ → Option ℕ
+find_number_of_key row key = option_map (λ field. decimal_number (length (first_value field)) (first_value field)) (find_key row key)
 
 abbrev pub number_of_key : List ℕ → List ℕ → ℕ → ℕ
-number_of_key row key default = cond (has_key row key) (decimal_number (length (value_of_key row key)) (value_of_key row key)) default
+number_of_key row key default = unwrap_or (find_number_of_key row key) default
 
 abbrev pub bit_of_key : List ℕ → List ℕ → Bool → Bool
 bit_of_key row key default = cond (has_key row key) (slice_index (value_of_key row key) 0 == (code "1")) default

@@ -8,3 +8,4 @@ pub mod Answers
 pub mod Tally
 pub mod Words
 pub mod Maps
+pub mod Findings

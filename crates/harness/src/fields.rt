@@ -16,12 +16,15 @@
 //     has(fields, key)              whether there is a field with this key
 //     value(fields, key)            its value, nothing where there is none
 //     is(fields, key, word)         whether there is one, and its value is this word
+//     find_word(fields, key)        its value as four hexadecimal digits, if there is one
+//     find_number(fields, key)      its value in decimal digits, if there is one
 //     word(fields, key, default)    its value as four hexadecimal digits, or the default where there is none
 //     number(fields, key, default)  its value in decimal digits, or the default
 //     bit(fields, key, default)     whether its value is 1, or the default
 //     letter(fields, key, byte, default)    whether the letter stands in its value, or the default
 //     form::fit(fields, form)       whether each field is one of the form's, its value is as the form says, and no key stands twice
 //     words::put(memory, fields)    puts the words of all fields `0100=02E4,0005` into a memory
+//     words::lay(memory, fields)    fills the memory with the word of the field `fill`, and puts the words of all fields into it
 //     words::are_inside(fields, size)       whether these words lie inside a memory of so many words
 //     words::list_length(value), words::list_word(value, index)     how many words a list of words has, and one of them
 //     words::put_list(memory, address, value)     puts the words of a list into a memory
@@ -35,7 +38,7 @@ ghost use Rattle.std.specs.Option.{option_map};
 ghost use Rattle.harness.specs.Text.{equal_text};
 ghost use Rattle.harness.specs.Fields.{kind_of_row, body_of_row, body_of_kind, starts_with_key, first_field, after_first_field, fields_of, fields_left};
 ghost use Rattle.harness.specs.Fields.{find_key, has_key, first_value, value_of_key};
-ghost use Rattle.harness.specs.Fields.{word_of_key, number_of_key, bit_of_key, letter_of_key, is_of_key};
+ghost use Rattle.harness.specs.Fields.{find_word_of_key, word_of_key, find_number_of_key, number_of_key, bit_of_key, letter_of_key, is_of_key};
 
 use crate::text;
 
@@ -163,25 +166,32 @@ pub fn is(fields: &[u8], key: &[u8], word: &[u8]) -> bool
     has(fields, key) & (value(fields, key) == word)
 }
 
+// The word in a field's value, if there is such a field.
+pub fn find_word(fields: &[u8], key: &[u8]) -> Option<u16>
+    ensures { result ≡ find_word_of_key fields.now key.now }
+{
+    let field = find(fields, key)?;
+    Some(text::hex_word(first_value(field), 0))
+}
+
 pub fn word(fields: &[u8], key: &[u8], default: u16) -> u16
     ensures { result ≡ word_of_key fields.now key.now default }
 {
-    match find(fields, key) {
-        Some(field) => text::hex_word(first_value(field), 0),
-        None => default,
-    }
+    find_word(fields, key).unwrap_or(default)
+}
+
+// The number in a field's value, if there is such a field.
+pub fn find_number(fields: &[u8], key: &[u8]) -> Option<u64>
+    ensures { result ≡ find_number_of_key fields.now key.now }
+{
+    let digits = first_value(find(fields, key)?);
+    Some(text::decimal(digits, 0, digits.len()))
 }
 
 pub fn number(fields: &[u8], key: &[u8], default: u64) -> u64
     ensures { result ≡ number_of_key fields.now key.now default }
 {
-    match find(fields, key) {
-        Some(field) => {
-            let digits = first_value(field);
-            text::decimal(digits, 0, digits.len())
-        }
-        None => default,
-    }
+    find_number(fields, key).unwrap_or(default)
 }
 
 pub fn bit(fields: &[u8], key: &[u8], default: bool) -> bool

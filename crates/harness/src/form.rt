@@ -74,7 +74,7 @@ fn is_hex(value: &[u8]) -> bool
 fn is_range_kind(value: &[u8]) -> bool
     ensures { result ≡ is_range_kind value.now }
 {
-    text::same(value, b"rom") | text::same(value, b"ram16") | text::same(value, b"ram8")
+    matches!(value, b"rom" | b"ram16" | b"ram8")
 }
 
 // A range of a map, as `0100-01FF:ram16`. Its first address may stand above its last: a case can write a map that is refused.
@@ -98,7 +98,7 @@ fn are_ranges(value: &[u8]) -> bool
 fn is_map(value: &[u8]) -> bool
     ensures { result ≡ is_map_text value.now }
 {
-    text::same(value, b"none") | are_ranges(value)
+    (value == b"none".as_slice()) | are_ranges(value)
 }
 
 // The value without its first letter, if it is this one.
@@ -122,7 +122,7 @@ fn are_picked(value: &[u8], letters: &[u8]) -> bool
 fn are_letters(value: &[u8], letters: &[u8]) -> bool
     ensures { result ≡ are_letters value.now letters.now }
 {
-    text::same(value, b"-") | (!value.is_empty() & are_picked(value, letters))
+    (value == b"-".as_slice()) | (!value.is_empty() & are_picked(value, letters))
 }
 
 // Whether a value has a form, which is known by its first letter.

@@ -7,6 +7,7 @@ pub mod bytes;
 pub mod case;
 pub mod cases;
 pub mod fields;
+pub mod findings;
 pub mod form;
 pub mod machine;
 pub mod map;

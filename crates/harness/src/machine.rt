@@ -2,7 +2,14 @@
 ghost use Rattle.std.specs.Prelude.{◌≡◌, true, ◌↔◌};
 
 use crate::case;
-use cpu::{State, Status};
+use cpu::{Lines, State, Status};
+
+// Nothing is requested, and every external input is 0.
+pub const QUIET: Lines = Lines {
+    intrm: true,
+    busrq: true,
+    external: 0,
+};
 
 // Only prints. Whether a register differs is told by `==`, whose contract says so.
 fn say_registers(rt: &impl Print, left: [u16; 8], expected: [u16; 8]) {
@@ -11,6 +18,7 @@ fn say_registers(rt: &impl Print, left: [u16; 8], expected: [u16; 8]) {
     }
 }
 
+// Mark by mark, since each that differs is printed.
 fn agree_status(rt: &impl Print, left: Status, expected: Status) -> bool
     ensures { (result ≡ true) ↔ left ≡ expected }
 {

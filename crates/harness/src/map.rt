@@ -12,12 +12,10 @@ const BOARD_RANGES: usize = 16;
 fn kind_in(value: &[u8]) -> Kind
     ensures { result ≡ kind_written value.now }
 {
-    if text::same(value, b"rom") {
-        Kind::Rom
-    } else if text::same(value, b"ram8") {
-        Kind::Ram8
-    } else {
-        Kind::Ram16
+    match value {
+        b"rom" => Kind::Rom,
+        b"ram8" => Kind::Ram8,
+        _ => Kind::Ram16,
     }
 }
 
@@ -61,7 +59,7 @@ fn board_in(value: &[u8]) -> Board
     ensures { result ≡ board_written value.now }
 {
     let ranges = ranges_in(value);
-    let count = if text::same(value, b"none") {
+    let count = if value == b"none".as_slice() {
         0
     } else {
         count_in(value)

@@ -54,27 +54,3 @@ impl fmt::Display for Tally {
         write!(f, "{cases} cases, {failed} failed")
     }
 }
-
-// TODO until the last callers write the methods
-pub fn empty() -> Tally
-    ensures { result ≡ no_cases }
-{
-    Tally::new()
-}
-
-pub fn judge(rt: &impl Print, tally: Tally, name: &[u8], well: bool) -> Tally
-    ensures { result ≡ counted_of tally well }
-{
-    let _ = rt.write_all(name);
-    let _ = rt.write_all(b": ");
-    let mut next = tally;
-    next.close(rt, well);
-    next
-}
-
-pub fn summary(rt: &impl Print, tally: Tally) -> bool
-    ensures { result ≡ all_well tally }
-{
-    let _ = rt.println(tally);
-    tally.is_well()
-}

@@ -1,7 +1,7 @@
 // Text: what stands before and behind a mark, the rows of an input, and the numbers that digits write.
 ghost use Rattle.std.specs.Prelude.{◌≡◌, ◌-◌, ◌<◌, ◌≤◌, [], length, drop, slice_index, slice_index_or};
 ghost use Rattle.harness.specs.Text.{length_before, count_of, part_before, part_behind, first_row, after_first_row, rows_of, rows_left, is_remark};
-ghost use Rattle.harness.specs.Text.{starts_with, equal_text, stands_in, all_stand_in, digit_value, hex_number, decimal_number};
+ghost use Rattle.harness.specs.Text.{all_stand_in, digit_value, hex_number, decimal_number};
 
 const LINE_FEED: u8 = 10;
 
@@ -40,13 +40,13 @@ pub fn behind(text: &[u8], mark: u8) -> &[u8]
     from_column(text, length_before(text, mark) + 1)
 }
 
-pub fn first_row(input: &[u8]) -> &[u8]
+fn first_row(input: &[u8]) -> &[u8]
     ensures { result.now ≡ first_row input.now }
 {
     before(input, LINE_FEED)
 }
 
-pub fn after_first_row(input: &[u8]) -> &[u8]
+fn after_first_row(input: &[u8]) -> &[u8]
     ensures { (result.now ≡ after_first_row input.now) × (length result.now ≤ length input.now - 1) }
 {
     behind(input, LINE_FEED)
@@ -91,24 +91,6 @@ impl<'a> Iterator for Rows<'a> {
         self.rest = after_first_row(rest);
         Some(first_row(rest))
     }
-}
-
-pub fn starts_with(text: &[u8], start: &[u8]) -> bool
-    ensures { result ≡ starts_with text.now start.now }
-{
-    text.starts_with(start)
-}
-
-pub fn same(a: &[u8], b: &[u8]) -> bool
-    ensures { result ≡ equal_text a.now b.now }
-{
-    a == b
-}
-
-pub fn stands_in(byte: u8, set: &[u8]) -> bool
-    ensures { result ≡ stands_in byte set.now }
-{
-    set.contains(&byte)
 }
 
 // Whether each byte of the text stands in the set.

@@ -1,24 +1,11 @@
-// Runs of words: filled, compared, and told by the fields of a row, as `0100=02E4,0005`.
-ghost use Rattle.std.specs.Prelude.{◌≡◌, ◌*◌, true, length, drop, replicate, slice_set};
-ghost use Rattle.harness.specs.Text.{hex_number};
+// Runs of words as the fields of a row tell them: `0100=02E4,0005`.
+ghost use Rattle.std.specs.Prelude.{◌≡◌, ◌*◌, length, drop, slice_set, replicate};
+ghost use Rattle.harness.specs.Text.{quoted, hex_number};
+ghost use Rattle.harness.specs.Fields.{word_of_key};
 ghost use Rattle.harness.specs.Words.{words_in_list, tells_words, with_list_at, with_first, with_words, is_inside, are_inside};
 
 use crate::fields::Fields;
 use crate::{fields, form, text};
-
-// Puts one word at every place.
-pub fn fill(run: &mut [u16], word: u16)
-    ensures { run.new ≡ replicate (length run.old) word }
-{
-    run.fill(word)
-}
-
-// Whether both runs have the same words.
-pub fn same(a: &[u16], b: &[u16]) -> bool
-    ensures { (result ≡ true → a.now ≡ b.now) × (a.now ≡ b.now → result ≡ true) }
-{
-    a == b
-}
 
 pub fn list_length(list: &[u8]) -> usize
     ensures { result ≡ words_in_list list.now }
@@ -73,6 +60,14 @@ pub fn put(memory: &mut [u16], fields: &[u8])
     for field in Fields::of(fields) {
         put_first(memory, field);
     }
+}
+
+// Makes the memory that a case begins with: the words that its fields tell, and elsewhere the word `fill`, 5A5A where there is none.
+pub fn lay(memory: &mut [u16], before: &[u8])
+    ensures { memory.new ≡ with_words before.now (replicate (length memory.old) (word_of_key before.now (quoted "fill") 0x5A5A)) }
+{
+    memory.fill(fields::word(before, b"fill", 0x5A5A));
+    put(memory, before);
 }
 
 #[tactic(auto, unfolding(crate::specs::Words::is_inside))]

@@ -1,6 +1,7 @@
 // A case of the assembler: the answer is compared with what the case says.
 use harness::{answer, bytes, fields, form, words};
 use listing::Assembly;
+use refusal::Refusal;
 
 // The most bytes that `bytes` may give: more than a line has.
 const LINE_ROOM: usize = 32;
@@ -13,30 +14,26 @@ fn is_formed(before: &[u8], after: &[u8]) -> bool {
         & answer::fit(after, b"assembled", b"answer=any words=list")
 }
 
-// Whether the row has so many words.
-fn has_words(after: &[u8], count: usize) -> bool {
-    fields::has(after, b"words") & (words::list_length(fields::value(after, b"words")) == count)
+// Whether the row tells these words.
+fn has_words(after: &[u8], words: &[u16]) -> bool {
+    let list = fields::value(after, b"words");
+    fields::has(after, b"words")
+        & (words::list_length(list) == words.len())
+        & (0u16..)
+            .zip(words)
+            .all(|(index, word)| words::list_word(list, index) == *word)
 }
 
-fn has_word(after: &[u8], index: u16, word: u16) -> bool {
-    words::list_word(fields::value(after, b"words"), index) == word
-}
-
-fn is_answer(answer: Assembly, after: &[u8]) -> bool {
+fn is_answer(answer: Result<Assembly, Refusal>, after: &[u8]) -> bool {
     match answer {
-        Assembly::Refused(refusal) => answer::refuses(after, refusal::number(refusal)),
-        Assembly::One(a) => has_words(after, 1) & has_word(after, 0, a),
-        Assembly::Two(a, b) => has_words(after, 2) & has_word(after, 0, a) & has_word(after, 1, b),
-        Assembly::Three(a, b, c) => {
-            has_words(after, 3)
-                & has_word(after, 0, a)
-                & has_word(after, 1, b)
-                & has_word(after, 2, c)
-        }
+        Ok(Assembly::One(a)) => has_words(after, &[a]),
+        Ok(Assembly::Two(a, b)) => has_words(after, &[a, b]),
+        Ok(Assembly::Three(a, b, c)) => has_words(after, &[a, b, c]),
+        Err(why) => answer::refuses(after, refusal::number(why)),
     }
 }
 
-fn assembled(before: &[u8]) -> Assembly {
+fn assembled(before: &[u8]) -> Result<Assembly, Refusal> {
     let double = fields::bit(before, b"d", false);
     if fields::has(before, b"bytes") {
         let mut room = [0u8; LINE_ROOM];

@@ -1,6 +1,7 @@
 // A case of the disassembler: the answer and the whole text room are compared with what the case says.
-use harness::{answer, fields, form, map, text, words};
-use listing::Listing;
+use harness::{answer, fields, form, map, words};
+use listing::Listed;
+use refusal::Refusal;
 
 // One word more than the disassembler takes.
 const MEMORY_ROOM: usize = 65537;
@@ -18,28 +19,22 @@ fn is_formed(before: &[u8], after: &[u8]) -> bool {
     ) & answer::fit(after, b"listed", b"answer=any words=number d=bit text=any")
 }
 
-fn is_answer(answer: Listing, after: &[u8]) -> bool {
+fn is_answer(answer: Result<Listed, Refusal>, after: &[u8]) -> bool {
     match answer {
-        Listing::Refused(refusal) => answer::refuses(after, refusal::number(refusal)),
-        Listing::Listed {
-            length,
-            words,
-            double,
-        } => {
+        Ok(listed) => {
             !answer::is_refused(after)
-                & (length == fields::value(after, b"text").len())
-                & (words as u64 == fields::number(after, b"words", 0))
-                & (double == fields::bit(after, b"d", false))
+                & (listed.length == fields::value(after, b"text").len())
+                & (u64::from(listed.words) == fields::number(after, b"words", 0))
+                & (listed.double == fields::bit(after, b"d", false))
         }
+        Err(why) => answer::refuses(after, refusal::number(why)),
     }
 }
 
+// As far as there is room.
 fn put_text(room: &mut [u8], line: &[u8]) {
-    for i in 0..line.len() {
-        if room.len() <= i {
-            return;
-        }
-        room[i] = line[i];
+    for (byte, wanted) in room.iter_mut().zip(line) {
+        *byte = *wanted;
     }
 }
 
@@ -49,14 +44,11 @@ fn is_listed(memory: &[u16], text: &mut [u8], before: &[u8], after: &[u8]) -> bo
     let room = fields::number(before, b"room", 16) as usize;
     let address = fields::word(before, b"address", 0);
     let double = fields::bit(before, b"d", false);
-    if memory.len() < size {
+    let (Some(memory), Some(text)) = (memory.get(..size), text.get_mut(..room)) else {
         return false;
-    }
-    if text.len() < room {
-        return false;
-    }
+    };
     let board = map::board(before, b"map");
-    let answer = listing::disassemble(board, &memory[0..size], address, double, &mut text[0..room]);
+    let answer = listing::disassemble(board, memory, address, double, text);
     is_answer(answer, after) & words::are_inside(before, size)
 }
 
@@ -64,10 +56,9 @@ pub(crate) fn is_well(before: &[u8], after: &[u8]) -> bool {
     let mut memory = [0u16; MEMORY_ROOM];
     let mut text = [BLANK; TEXT_ROOM];
     let mut wanted = [BLANK; TEXT_ROOM];
-    words::fill(&mut memory, fields::word(before, b"fill", 0x5A5A));
-    words::put(&mut memory, before);
+    words::lay(&mut memory, before);
     put_text(&mut wanted, fields::value(after, b"text"));
     let formed = is_formed(before, after);
     let listed = is_listed(&memory, &mut text, before, after);
-    formed & listed & text::same(&text, &wanted)
+    formed & listed & (text == wanted)
 }

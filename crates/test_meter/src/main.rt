@@ -6,63 +6,34 @@ mod regions;
 mod rows;
 mod waits;
 
-use harness::tally::Tally;
-use harness::{fields, input, tally, text};
-
-const INPUT_ROOM: usize = 65536;
+use crate::rows::Call;
+use harness::cases::Case;
+use harness::{cases, words};
 
 // One word more than the meter takes, for the cases that lend too much.
 const MEMORY_ROOM: usize = 65537;
 
-// Makes the call of a case, and compares.
-fn call_agrees(name: &[u8], before: &[u8], after: &[u8], memory: &mut [u16]) -> bool {
-    rows::lay(memory, before);
-    if rows::is_wait(name) {
-        waits::agree(memory, before, after)
-    } else {
-        regions::agree(memory, before, after)
-    }
-}
-
-// Lends the call as many words as the case says.
-fn is_well(name: &[u8], before: &[u8], after: &[u8], memory: &mut [u16]) -> bool {
-    if !rows::are_case(name, before, after) {
+// Makes the call of a case, and compares. Lends the call as many words as the case says.
+fn is_well(case: Case, memory: &mut [u16]) -> bool {
+    let Some((call, before, after)) = rows::parts_of(case) else {
         return false;
-    }
-    let given = fields::body(before);
-    let size = rows::size_of(given);
-    if memory.len() < size {
+    };
+    let Some(memory) = memory.get_mut(..rows::size_of(before)) else {
         return false;
+    };
+    words::lay(memory, before);
+    match call {
+        Call::Wait => waits::agree(memory, before, after),
+        Call::Region => regions::agree(memory, before, after),
     }
-    call_agrees(name, given, fields::body(after), &mut memory[0..size])
-}
-
-// A row that is no remark is the first of a case's three rows, so that no row is passed over.
-fn run_cases(rt: &impl Print, input: &[u8], memory: &mut [u16]) -> Tally {
-    let mut tally = tally::empty();
-    let mut rest = input;
-    while rest.len() > 0 {
-        let row = text::first_row(rest);
-        let second = text::after_first_row(rest);
-        if text::is_remark(row) {
-            rest = second;
-        } else {
-            let third = text::after_first_row(second);
-            let well = is_well(row, text::first_row(second), text::first_row(third), memory);
-            tally = tally::judge(rt, tally, fields::body(row), well);
-            rest = text::after_first_row(third);
-        }
-    }
-    tally
 }
 
 fn main(rt: HostRuntime) {
-    let mut input = [0u8; INPUT_ROOM];
-    let length = input::read_full(&mut rt.stdin(), &mut input);
     let mut memory = [0u16; MEMORY_ROOM];
-    let tally = run_cases(&rt, &input[..length], &mut memory);
-    if length == INPUT_ROOM {
-        let _ = rt.write_all(b"the input fills its room, and may be cut\n");
-    }
-    tally::summary(&rt, tally);
+    cases::run::<65536, _>(&rt, |input| {
+        cases::run_cases(&rt, input, |case| {
+            cases::begin(&rt, case.name());
+            is_well(case, &mut memory)
+        })
+    })
 }

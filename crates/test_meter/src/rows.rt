@@ -1,44 +1,63 @@
 // The rows of a case. The head of the file `stdin` says what their fields mean.
+use harness::cases::Case;
 use harness::{answer, fields, form, words};
 
-pub(crate) fn is_wait(row: &[u8]) -> bool {
-    fields::is_kind(row, b"wait")
+// The meter for an address, or for a region.
+#[derive(Clone, Copy)]
+pub(crate) enum Call {
+    Wait,
+    Region,
 }
 
-fn are_of_wait(name: &[u8], before: &[u8], after: &[u8]) -> bool {
-    is_wait(name)
-        & form::fit(
-            before,
-            b"size=number fill=word 0000=list map=map address=word limit=number",
-        )
-        & form::fit(
-            after,
-            b"answer=any cycles=number address=word number=number",
-        )
+fn call_of(case: Case) -> Option<Call> {
+    match case.kind() {
+        b"wait" => Some(Call::Wait),
+        b"region" => Some(Call::Region),
+        _ => None,
+    }
 }
 
-fn are_of_region(name: &[u8], before: &[u8], after: &[u8]) -> bool {
-    fields::is_kind(name, b"region")
-        & form::fit(
-            before,
-            b"size=number fill=word 0000=list map=map first=word last=word limit=number",
-        )
-        & answer::fit(
-            after,
-            b"found",
-            b"answer=any longest=number start=word over=word",
-        )
+fn are_of_wait(before: &[u8], after: &[u8]) -> bool {
+    form::fit(
+        before,
+        b"size=number fill=word 0000=list map=map address=word limit=number",
+    ) & form::fit(
+        after,
+        b"answer=any cycles=number address=word number=number",
+    )
 }
 
-// Whether three rows are a case.
-pub(crate) fn are_case(name: &[u8], before: &[u8], after: &[u8]) -> bool {
-    let given = fields::body(before);
-    let expected = fields::body(after);
-    fields::is_kind(before, b"before")
-        & fields::is_kind(after, b"after")
-        & (are_of_wait(name, given, expected) | are_of_region(name, given, expected))
-        & words::are_inside(given, size_of(given))
-        & (fields::number(given, b"limit", 0) < 65536)
+fn are_of_region(before: &[u8], after: &[u8]) -> bool {
+    form::fit(
+        before,
+        b"size=number fill=word 0000=list map=map first=word last=word limit=number",
+    ) & answer::fit(
+        after,
+        b"found",
+        b"answer=any longest=number start=word over=word",
+    )
+}
+
+fn are_of(call: Call, before: &[u8], after: &[u8]) -> bool {
+    match call {
+        Call::Wait => are_of_wait(before, after),
+        Call::Region => are_of_region(before, after),
+    }
+}
+
+// What a case calls, and the fields of what is given and of what is expected; nothing, where its rows are not as they are to be.
+pub(crate) fn parts_of<'a>(case: Case<'a>) -> Option<(Call, &'a [u8], &'a [u8])> {
+    let call = call_of(case)?;
+    let before = case.before()?;
+    let after = case.after()?;
+    if are_of(call, before, after)
+        & words::are_inside(before, size_of(before))
+        & (fields::number(before, b"limit", 0) < 65536)
+    {
+        Some((call, before, after))
+    } else {
+        None
+    }
 }
 
 // How many words the lent memory has.
@@ -48,10 +67,4 @@ pub(crate) fn size_of(before: &[u8]) -> usize {
 
 pub(crate) fn limit_of(before: &[u8]) -> u16 {
     (fields::number(before, b"limit", 0) % 65536) as u16
-}
-
-// Makes the memory that the call is given: the case's words, and one word elsewhere.
-pub(crate) fn lay(memory: &mut [u16], before: &[u8]) {
-    words::fill(memory, fields::word(before, b"fill", 0x5A5A));
-    words::put(memory, before);
 }

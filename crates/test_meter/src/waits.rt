@@ -1,29 +1,24 @@
 // The meter for an address: its call, and its answer compared with what a case tells.
 use crate::rows;
 use harness::{fields, map};
-use meter::{WaitAnswer, Walked};
+use meter::Walked;
+use refusal::Refusal;
 
 // Whether a row tells an answer of this name with these numbers, 0 where it has none.
 fn tells(after: &[u8], name: &[u8], cycles: u16, address: u16, number: u16) -> bool {
     fields::is(after, b"answer", name)
-        & (fields::number(after, b"cycles", 0) == cycles as u64)
+        & (fields::number(after, b"cycles", 0) == u64::from(cycles))
         & (fields::word(after, b"address", 0) == address)
-        & (fields::number(after, b"number", 0) == number as u64)
+        & (fields::number(after, b"number", 0) == u64::from(number))
 }
 
-fn tells_walk(after: &[u8], walked: Walked) -> bool {
-    match walked {
-        Walked::Wait { cycles, .. } => tells(after, b"wait", cycles, 0, 0),
-        Walked::Over => tells(after, b"over", 0, 0, 0),
-        Walked::Halts => tells(after, b"halts", 0, 0, 0),
-        Walked::Unspecified { address, .. } => tells(after, b"unspecified", 0, address, 0),
-    }
-}
-
-fn tells_answer(after: &[u8], answer: WaitAnswer) -> bool {
+fn tells_answer(after: &[u8], answer: Result<Walked, Refusal>) -> bool {
     match answer {
-        WaitAnswer::Refused(why) => tells(after, b"refused", 0, 0, refusal::number(why)),
-        WaitAnswer::Answered(walked) => tells_walk(after, walked),
+        Ok(Walked::Wait { cycles, .. }) => tells(after, b"wait", cycles, 0, 0),
+        Ok(Walked::Over) => tells(after, b"over", 0, 0, 0),
+        Ok(Walked::Halts) => tells(after, b"halts", 0, 0, 0),
+        Ok(Walked::Unspecified { address, .. }) => tells(after, b"unspecified", 0, address, 0),
+        Err(why) => tells(after, b"refused", 0, 0, refusal::number(why)),
     }
 }
 

@@ -8,17 +8,15 @@ mod sweep;
 mod tally;
 mod wrong;
 
-use harness::input;
-
 const INPUT_ROOM: usize = 65536;
 
 fn main(rt: HostRuntime) {
-    let mut input = [0u8; INPUT_ROOM];
-    let length = input::read_full(&mut rt.stdin(), &mut input);
-    if length == INPUT_ROOM {
-        let _ = rt.write_all(b"the input fills its room, and may be cut\n");
+    let mut room = [0u8; INPUT_ROOM];
+    let input = input::read_full(&mut rt.stdin(), &mut room);
+    if input.len() == INPUT_ROOM {
+        let _ = rt.println("the input fills its room, and may be cut");
     }
-    outside::run(&rt, &input[..length]);
+    outside::run(&rt, input);
     sweep::run(&rt);
     wrong::run(&rt);
 }

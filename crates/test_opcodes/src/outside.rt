@@ -3,53 +3,41 @@
 //     0   4    9    14     21  25
 //     0 | 0280 F2B3 7F4A | 2 | MVI $F2B3,R0
 use crate::line;
-use crate::tally::{counted, empty, write_tally};
+use crate::tally::Tally;
 use harness::text;
+use harness::text::Rows;
 
 // How a row begins: `d` stands for 0 or 1, `0` for a hexadecimal digit, every other byte for itself.
 const SHAPE: [u8; 25] = *b"d | 0000 0000 0000 | 0 | ";
 
 fn fits(byte: u8, shape: u8) -> bool {
     match shape {
-        b'd' => text::stands_in(byte, b"01"),
-        b'0' => text::stands_in(byte, b"0123456789ABCDEF"),
+        b'd' => b"01".contains(&byte),
+        b'0' => b"0123456789ABCDEF".contains(&byte),
         _ => byte == shape,
     }
 }
 
 fn is_shaped(row: &[u8]) -> bool {
-    for i in 0..25usize {
-        if !fits(text::byte_at(row, i), SHAPE[i]) {
-            return false;
-        }
-    }
-    true
+    (SHAPE.len() <= row.len())
+        & row
+            .iter()
+            .zip(&SHAPE)
+            .all(|(byte, shape)| fits(*byte, *shape))
 }
 
-fn write_if(rt: &impl Print, differs: bool, name: &[u8]) {
-    if differs {
-        let _ = rt.write_all(name);
-    }
-}
-
-// Prints a row that is not as written, with what differs.
-fn judged(
-    rt: &impl Print,
-    row: &[u8],
-    shaped: bool,
-    spelled: bool,
-    used: bool,
-    back: bool,
-) -> bool {
-    let well = shaped & spelled & used & back;
+// Prints a row that is not as written, with what differs: each test with its name.
+fn judged(rt: &impl Print, row: &[u8], tests: [(bool, &str); 4]) -> bool {
+    let well = tests.iter().all(|(holds, _)| *holds);
     if !well {
         let _ = rt.write_all(row);
-        let _ = rt.write_all(b":");
-        write_if(rt, !shaped, b" malformed");
-        write_if(rt, !spelled, b" text");
-        write_if(rt, !used, b" words");
-        write_if(rt, !back, b" assembled");
-        let _ = rt.write_all(b"\n");
+        let _ = rt.print(":");
+        for (holds, name) in tests {
+            if !holds {
+                let _ = rt.print(name);
+            }
+        }
+        let _ = println!(rt);
     }
     well
 }
@@ -57,35 +45,39 @@ fn judged(
 // Lists the words of a row, and assembles its line.
 fn is_as_written(rt: &impl Print, row: &[u8]) -> bool {
     let double = text::byte_at(row, 0) == b'1';
-    let words = [
+    let memory = [
         text::hex_word(row, 4),
         text::hex_word(row, 9),
         text::hex_word(row, 14),
     ];
     let wanted = text::from_column(row, 25);
-    let found = line::line_of(words, double);
-    let count = found.words;
-    let answer = listing::assemble(wanted, double);
-    judged(
-        rt,
-        row,
-        is_shaped(row),
-        line::is_text(found, wanted),
-        count as u64 == text::decimal(row, 21, 1),
-        line::is_words(answer, line::cut(words, count), count),
-    )
+    let Some(found) = line::line_of(memory, double) else {
+        return judged(
+            rt,
+            row,
+            [(false, " text"), (true, ""), (true, ""), (true, "")],
+        );
+    };
+    let words = found.listed.words;
+    let assembly = line::assembly_of(memory, words);
+    let tests = [
+        (is_shaped(row), " malformed"),
+        (found.text() == wanted, " text"),
+        (u64::from(words) == text::decimal(row, 21, 1), " words"),
+        (
+            listing::assemble(wanted, double).is_ok_and(|found| found == assembly),
+            " assembled",
+        ),
+    ];
+    judged(rt, row, tests)
 }
 
 pub(crate) fn run(rt: &impl Print, input: &[u8]) {
-    let mut tally = empty();
-    let mut rest = input;
-    while rest.len() > 0 {
-        let row = text::first_row(rest);
+    let mut tally = Tally::of("lines of another disassembler");
+    for row in Rows::of(input) {
         if !text::is_remark(row) {
-            tally = counted(tally, is_as_written(rt, row));
+            tally.add(is_as_written(rt, row));
         }
-        let next = text::after_first_row(rest);
-        rest = next;
     }
-    write_tally(rt, "lines of another disassembler", "as written", tally);
+    tally.write(rt, "as written");
 }

@@ -1,37 +1,49 @@
 // Counts of what was tried and of what went well.
 
+// How often a test held.
+#[derive(Clone, Copy)]
+pub(crate) struct Count {
+    name: &'static str,
+    held: u64,
+}
+
+impl Count {
+    pub(crate) fn of(name: &'static str) -> Count {
+        Count { name, held: 0 }
+    }
+
+    pub(crate) fn add(&mut self, test: bool) {
+        self.held = self.held.wrapping_add(u64::from(test));
+    }
+
+    pub(crate) fn write(self, rt: &impl Print) {
+        let _ = println!(rt; "{}: {}", self.name, self.held);
+    }
+}
+
+// What was tried, and how often it went well.
 #[derive(Clone, Copy)]
 pub(crate) struct Tally {
-    pub tried: u64,
-    pub well: u64,
+    name: &'static str,
+    tried: u64,
+    well: u64,
 }
 
-pub(crate) fn empty() -> Tally {
-    Tally { tried: 0, well: 0 }
-}
-
-// One more, if a test holds.
-pub(crate) fn more(count: u64, test: bool) -> u64 {
-    if test {
-        std::num::wrapping_add_u64(count, 1)
-    } else {
-        count
+impl Tally {
+    pub(crate) fn of(name: &'static str) -> Tally {
+        Tally {
+            name,
+            tried: 0,
+            well: 0,
+        }
     }
-}
 
-pub(crate) fn counted(tally: Tally, well: bool) -> Tally {
-    Tally {
-        tried: more(tally.tried, true),
-        well: more(tally.well, well),
+    pub(crate) fn add(&mut self, well: bool) {
+        self.tried = self.tried.wrapping_add(1);
+        self.well = self.well.wrapping_add(u64::from(well));
     }
-}
 
-pub(crate) fn write_count(rt: &impl Print, name: &str, count: u64) {
-    let _ = println!(rt; "{name}: {count}");
-}
-
-pub(crate) fn write_tally(rt: &impl Print, name: &str, verdict: &str, tally: Tally) {
-    let tried = tally.tried;
-    let well = tally.well;
-    let _ = println!(rt; "{name}: {tried}, {verdict} {well}");
+    pub(crate) fn write(self, rt: &impl Print, verdict: &str) {
+        let _ = println!(rt; "{}: {}, {verdict} {}", self.name, self.tried, self.well);
+    }
 }

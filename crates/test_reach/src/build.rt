@@ -6,8 +6,8 @@ use harness::{answer, fields, words};
 const BLANK: u64 = 0xA5A5_A5A5_A5A5_A5A5;
 
 pub(crate) fn memory_of(before: &[u8]) -> [u16; row::MEMORY_ROOM] {
-    let mut memory = [fields::word(before, b"fill", 0x5A5A); row::MEMORY_ROOM];
-    words::put(&mut memory, before);
+    let mut memory = [0; row::MEMORY_ROOM];
+    words::lay(&mut memory, before);
     memory
 }
 

@@ -1,16 +1,6 @@
 // Makes the call of a case, and compares the answer and all that was lent with what the case says.
 use crate::{build, row, tell};
-use harness::map;
-
-// Whether both buffers hold the same words.
-fn are_same(a: &[u64; row::SET_ROOM], b: &[u64; row::SET_ROOM]) -> bool {
-    for i in 0..row::SET_ROOM {
-        if a[i] != b[i] {
-            return false;
-        }
-    }
-    true
-}
+use harness::{findings, map};
 
 // A set is built, and the buffers get its members and no other bit.
 pub(crate) fn reach_is_well(before: &[u8], after: &[u8]) -> bool {
@@ -24,17 +14,17 @@ pub(crate) fn reach_is_well(before: &[u8], after: &[u8]) -> bool {
     let set_words = row::set_words(before, b"setwords");
     let answer = reach::reach(
         map::board(before, b"map"),
-        &memory[0..words],
-        &entries[0..count],
-        &mut clear[0..clear_words],
-        &mut set[0..set_words],
+        &memory[..words],
+        &entries[..count],
+        &mut clear[..clear_words],
+        &mut set[..set_words],
     );
     let clear_after = build::set_after(before, after, b"clear");
     let set_after = build::set_after(before, after, b"set");
     row::is_reach(before, after)
         & tell::tells_set(after, answer)
-        & are_same(&clear, &clear_after)
-        & are_same(&set, &set_after)
+        & (clear == clear_after)
+        & (set == set_after)
 }
 
 // A region's members of a set are metered.
@@ -47,14 +37,14 @@ pub(crate) fn region_is_well(before: &[u8], after: &[u8]) -> bool {
     let set_words = row::set_words(before, b"setwords");
     let answer = meter::region_reached(
         map::board(before, b"map"),
-        &memory[0..words],
+        &memory[..words],
         row::first_of(before),
         row::last_of(before),
         row::limit_of(before),
-        &clear[0..clear_words],
-        &set[0..set_words],
+        &clear[..clear_words],
+        &set[..set_words],
     );
-    row::is_region(before, after) & tell::tells_region(after, answer)
+    row::is_region(before, after) & findings::are_told(after, answer)
 }
 
 // A set is built, and a region's members of it are metered.
@@ -63,14 +53,14 @@ pub(crate) fn both_are_well(before: &[u8], after: &[u8]) -> bool {
     let entries = build::entries_of(before);
     let words = row::memory_words(before);
     let count = row::entry_count(before);
-    let lent = &memory[0..words];
+    let lent = &memory[..words];
     let mut clear = [0u64; bitset::WORDS];
     let mut set = [0u64; bitset::WORDS];
     let board = map::board(before, b"map");
-    reach::reach(board, lent, &entries[0..count], &mut clear, &mut set);
+    let _ = reach::reach(board, lent, &entries[..count], &mut clear, &mut set);
     let first = row::first_of(before);
     let last = row::last_of(before);
     let limit = row::limit_of(before);
     let answer = meter::region_reached(board, lent, first, last, limit, &clear, &set);
-    row::is_both(before, after) & tell::tells_region(after, answer)
+    row::is_both(before, after) & findings::are_told(after, answer)
 }

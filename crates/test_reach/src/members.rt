@@ -2,59 +2,51 @@
 use crate::row;
 use harness::{form, text};
 
-// The first and the last address of a span. A single address is a span of itself.
-fn first_of(span: &[u8]) -> u16 {
-    text::hex_word(span, 0)
+// The addresses from the first to the last.
+#[derive(Clone, Copy)]
+struct Span {
+    first: u16,
+    last: u16,
 }
 
-fn last_of(span: &[u8]) -> u16 {
-    if text::stands_in(b'-', span) {
-        text::hex_word(text::behind(span, b'-'), 0)
+// The span that a text writes, if it writes one. A single address is a span of itself.
+fn span_in(text: &[u8]) -> Option<Span> {
+    let first = text::before(text, b'-');
+    let last = if text.contains(&b'-') {
+        text::behind(text, b'-')
     } else {
-        first_of(span)
+        first
+    };
+    let span = Span {
+        first: text::hex_word(first, 0),
+        last: text::hex_word(last, 0),
+    };
+    if form::is_word(first) & form::is_word(last) & (span.first <= span.last) {
+        Some(span)
+    } else {
+        None
     }
-}
-
-fn is_span(value: &[u8]) -> bool {
-    let ends = form::is_word(text::before(value, b'-')) & form::is_word(text::behind(value, b'-'));
-    form::is_word(value) | (ends & (first_of(value) <= last_of(value)))
 }
 
 // Whether a value is in this form.
 pub(crate) fn are_written(value: &[u8]) -> bool {
-    let mut rest = value;
-    while rest.len() > 0 {
-        if !is_span(text::before(rest, b',')) {
-            return false;
-        }
-        if !text::stands_in(b',', rest) {
-            return true;
-        }
-        let next = text::behind(rest, b',');
-        rest = next;
-    }
-    false
+    value
+        .split(|byte| *byte == b',')
+        .all(|text| span_in(text).is_some())
 }
 
 // "one bit an address, 64 to a word, lowest bit first"
 fn put_address(set: &mut [u64; row::SET_ROOM], address: u16) {
-    let i = (address / 64) as usize;
-    set[i] = set[i] | (1u64 << (address % 64));
-}
-
-fn put_span(set: &mut [u64; row::SET_ROOM], first: u16, last: u16) {
-    for address in first..=last {
-        put_address(set, address);
-    }
+    set[usize::from(address / 64)] |= 1u64 << (address % 64);
 }
 
 // Puts the members that a value writes into a buffer, without the kit's own sets.
 pub(crate) fn put(set: &mut [u64; row::SET_ROOM], value: &[u8]) {
-    let mut rest = value;
-    while rest.len() > 0 {
-        let span = text::before(rest, b',');
-        put_span(set, first_of(span), last_of(span));
-        let next = text::behind(rest, b',');
-        rest = next;
+    for text in value.split(|byte| *byte == b',') {
+        if let Some(span) = span_in(text) {
+            for address in span.first..=span.last {
+                put_address(set, address);
+            }
+        }
     }
 }

@@ -14,11 +14,7 @@ pub(crate) const SET_ROOM: usize = 1025;
 fn at_most(number: u64, room: usize) -> usize
     ensures { result ≤ room }
 {
-    if number <= room as u64 {
-        number as usize
-    } else {
-        room
-    }
+    number.min(room as u64) as usize
 }
 
 // How many words of the memory are lent.

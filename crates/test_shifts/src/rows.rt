@@ -30,7 +30,7 @@ fn is_whole(row: &[u8]) -> bool {
         & is_bits(fields::value(row, b"result"))
         & fields::has(row, b"left")
         & fields::has(row, b"cycles")
-        & text::stands_in(register_digit(row), b"0123")
+        & b"0123".contains(&register_digit(row))
 }
 
 pub(crate) fn is_formed(row: &[u8]) -> bool {
@@ -39,10 +39,9 @@ pub(crate) fn is_formed(row: &[u8]) -> bool {
 
 // A word in binary digits.
 fn bits(row: &[u8], key: &[u8]) -> u16 {
-    let digits = fields::value(row, key);
     let mut word: u16 = 0;
-    for i in 0..16usize {
-        word = word % 32768 * 2 + (text::byte_at(digits, i) % 2) as u16;
+    for digit in fields::value(row, key) {
+        word = word % 32768 * 2 + u16::from(*digit % 2);
     }
     word
 }
@@ -63,7 +62,7 @@ fn status(row: &[u8], key: &[u8], ready: bool) -> Status {
         i: false,
         d: false,
         halted: false,
-        ready: ready,
+        ready,
         level: true,
         pending: false,
     }

@@ -1,22 +1,29 @@
 // The rows of a case. The head of the file `stdin` says what their fields mean.
 use cpu::{Lines, State, Status};
+use harness::cases::Case;
 use harness::{fields, form, map, words};
 use memory::map::Board;
 
-fn is_step(row: &[u8]) -> bool {
-    fields::is_kind(row, b"step")
+// What a case calls.
+#[derive(Clone, Copy)]
+pub(crate) enum Call {
+    Step,
+    Run,
 }
 
-pub(crate) fn is_run(row: &[u8]) -> bool {
-    fields::is_kind(row, b"run")
+fn call_of(case: Case) -> Option<Call> {
+    match case.kind() {
+        b"step" => Some(Call::Step),
+        b"run" => Some(Call::Run),
+        _ => None,
+    }
 }
 
-// The case's name, or the whole row where it names none.
-pub(crate) fn name_of(row: &[u8]) -> &[u8] {
-    if is_step(row) | is_run(row) {
-        fields::body(row)
-    } else {
-        row
+// The case's name, or the whole row where it calls nothing.
+pub(crate) fn name_of<'a>(case: Case<'a>) -> &'a [u8] {
+    match call_of(case) {
+        Some(_) => case.name(),
+        None => case.first,
     }
 }
 
@@ -40,20 +47,23 @@ fn is_expected(before: &[u8], after: &[u8]) -> bool {
 }
 
 // A step has no budget, and does not answer how many steps it is.
-fn is_of_kind(name: &[u8], before: &[u8], after: &[u8]) -> bool {
-    let of_run = fields::has(before, b"budget") | fields::has(after, b"steps");
-    is_run(name) | (is_step(name) & !of_run)
+fn fits_call(call: Call, before: &[u8], after: &[u8]) -> bool {
+    match call {
+        Call::Run => true,
+        Call::Step => !fields::has(before, b"budget") & !fields::has(after, b"steps"),
+    }
 }
 
-// Whether three rows are a case.
-pub(crate) fn are_case(name: &[u8], before: &[u8], after: &[u8]) -> bool {
-    let given = fields::body(before);
-    let expected = fields::body(after);
-    fields::is_kind(before, b"before")
-        & fields::is_kind(after, b"after")
-        & is_given(given)
-        & is_expected(given, expected)
-        & is_of_kind(name, given, expected)
+// What a case calls, and the fields of what is given and of what is expected; nothing, where its rows are not as they are to be.
+pub(crate) fn parts_of<'a>(case: Case<'a>) -> Option<(Call, &'a [u8], &'a [u8])> {
+    let call = call_of(case)?;
+    let before = case.before()?;
+    let after = case.after()?;
+    if is_given(before) & is_expected(before, after) & fits_call(call, before, after) {
+        Some((call, before, after))
+    } else {
+        None
+    }
 }
 
 // How many words the lent memory has.
@@ -65,15 +75,9 @@ pub(crate) fn board_of(before: &[u8]) -> Board {
     map::board(before, b"map")
 }
 
-// Makes the memory that the call is given: the case's words, and one word elsewhere.
-pub(crate) fn lay_before(memory: &mut [u16], before: &[u8]) {
-    words::fill(memory, fields::word(before, b"fill", 0x5A5A));
-    words::put(memory, before);
-}
-
-// Makes the memory that the call should leave: the same, with the case's stores.
+// Makes the memory that the call should leave: what it is given, with the case's stores.
 pub(crate) fn lay_after(memory: &mut [u16], before: &[u8], after: &[u8]) {
-    lay_before(memory, before);
+    words::lay(memory, before);
     words::put(memory, after);
 }
 

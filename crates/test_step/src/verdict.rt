@@ -1,43 +1,23 @@
 // Comparing what a call left with what its case says. Each comparison prints what differs and answers whether nothing does, so that
 // all differences of a case are seen.
-use crate::answer;
 use crate::answer::Answer;
 use harness::case;
 
-pub(crate) fn agree_answer(rt: &impl Print, left: Answer, after: &[u8]) -> bool {
-    if answer::is_told(after, left) {
-        return true;
+pub(crate) fn agree_answer(rt: &impl Print, given: Answer, after: &[u8]) -> bool {
+    let told = given.is_told(after);
+    if !told {
+        let _ = print!(rt; "the answer is {given}, ");
     }
-    let _ = rt.write_all(b"the answer is ");
-    let _ = rt.write_all(answer::name_of(&answer::NAMES, left.letter));
-    let steps = left.steps;
-    let cycles = left.cycles;
-    let number = left.number;
-    let _ = print!(rt; " steps={steps} cycles={cycles} number={number}, ");
-    false
+    told
 }
 
-fn word_of(memory: &[u16], at: usize) -> u16 {
-    if at < memory.len() { memory[at] } else { 0 }
-}
-
-// The lowest address whose words differ, or the memory's length.
-fn first_difference(memory: &[u16], expected: &[u16]) -> usize {
-    let mut at = 0;
-    while at < memory.len() {
-        if word_of(memory, at) != word_of(expected, at) {
-            return at;
-        }
-        at += 1;
-    }
-    at
-}
-
+// Shows the lowest address whose words differ.
 pub(crate) fn agree_memory(rt: &impl Print, memory: &[u16], expected: &[u16]) -> bool {
-    let at = first_difference(memory, expected);
-    if memory.len() <= at {
-        return true;
+    for (at, (word, wanted)) in memory.iter().zip(expected).enumerate() {
+        if *word != *wanted {
+            let _ = print!(rt; "at {at:04x} ");
+            return case::agree_word(rt, "the word", *word, *wanted);
+        }
     }
-    let _ = print!(rt; "at {at:04x} ");
-    case::agree_word(rt, b"the word", word_of(memory, at), word_of(expected, at))
+    true
 }

@@ -1,9 +1,10 @@
 // Runs a vector through the step, and compares.
 use crate::vector;
-use crate::vector::{Machine, Memory, Vector};
-use cpu::{Lines, State, StepAnswer};
-use harness::words;
+use crate::vector::{Flags, Memory, Vector};
+use cpu::{Done, Kind, Status};
+use harness::machine;
 use memory::map;
+use refusal::Refusal;
 
 // What of the outcome is not as the vector has it.
 #[derive(Clone, Copy)]
@@ -14,75 +15,51 @@ pub(crate) struct Differences {
     pub memory: bool,
 }
 
-#[derive(Clone, Copy)]
-pub(crate) enum Verdict {
-    Agrees,
-    Differs(Differences),
-    Malformed,
+impl Differences {
+    pub(crate) fn is_any(self) -> bool {
+        self.registers | self.flags | self.cycles | self.memory
+    }
 }
 
-fn same_flags(state: State, machine: Machine) -> bool {
-    let status = state.status;
-    (status.s == machine.s)
-        & (status.z == machine.z)
-        & (status.o == machine.o)
-        & (status.c == machine.c)
-}
-
-fn same_registers(state: State, machine: Machine) -> bool {
-    let found = state.registers;
-    let wanted = machine.registers;
-    words::same(&found, &wanted)
+fn flags_of(status: Status) -> Flags {
+    Flags {
+        s: status.s,
+        z: status.z,
+        o: status.o,
+        c: status.c,
+    }
 }
 
 // Whether the step made an instruction, and in so many cycles.
-fn executed_in(answer: StepAnswer, cycles: u16) -> bool {
-    if let StepAnswer::Executed { cycles: taken } = answer {
-        taken == cycles as u64
-    } else {
-        false
-    }
-}
-
-// Nothing is requested, and every external input is 0.
-fn quiet_lines() -> Lines {
-    Lines {
-        intrm: true,
-        busrq: true,
-        external: 0,
-    }
-}
-
-fn verdict_on(found: Differences) -> Verdict {
-    if found.registers | found.flags | found.cycles | found.memory {
-        Verdict::Differs(found)
-    } else {
-        Verdict::Agrees
+fn executed_in(answer: Result<Done, Refusal>, cycles: u16) -> bool {
+    match answer {
+        Ok(
+            Done {
+                kind: Kind::Executed,
+                cycles: taken,
+            },
+        ) => taken == u64::from(cycles),
+        _ => false,
     }
 }
 
 // The whole of both memories is compared, so that a store which the vector does not have is seen, wherever it goes.
-fn run_vector(vector: Vector, memory: &mut Memory, expected: &Memory) -> Verdict {
+fn run_vector(vector: Vector, memory: &mut Memory, expected: &Memory) -> Differences {
     let after = vector.after;
-    let stepped = cpu::step(vector.before, map::all_ram(), memory, quiet_lines());
+    let stepped = cpu::step(vector.before, map::all_ram(), memory, machine::QUIET);
     let state = stepped.state;
-    let answer = stepped.answer;
-    verdict_on(Differences {
-        registers: !same_registers(state, after),
-        flags: !same_flags(state, after),
-        cycles: !executed_in(answer, vector.cycles),
-        memory: !words::same(memory, expected),
-    })
+    Differences {
+        registers: state.registers != after.registers,
+        flags: flags_of(state.status) != after.flags,
+        cycles: !executed_in(stepped.answer, vector.cycles),
+        memory: *memory != *expected,
+    }
 }
 
-// The words that a vector does not name are 0.
-pub(crate) fn run_line(line: &[u8]) -> Verdict {
+// What differs, or nothing where the line is malformed. The words that a vector does not name are 0.
+pub(crate) fn run_line(line: &[u8]) -> Option<Differences> {
     let mut memory = [0u16; 65536];
     let mut expected = [0u16; 65536];
-    let vector = vector::read_vector(line, &mut memory, &mut expected);
-    if vector.good {
-        run_vector(vector, &mut memory, &expected)
-    } else {
-        Verdict::Malformed
-    }
+    let vector = vector::read_vector(line, &mut memory, &mut expected)?;
+    Some(run_vector(vector, &mut memory, &expected))
 }

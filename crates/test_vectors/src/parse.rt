@@ -1,120 +1,80 @@
-// Reads numbers and marks off a line of text, from a cursor that is handed in by value and handed back further on.
-ghost use Rattle.std.specs.Prelude.{◌+◌, ◌^◌, ◌<◌, ◌≤◌};
+// Reads numbers and marks off a line of text.
+ghost use Rattle.std.specs.Prelude.{◌+◌, ◌^◌, ◌<◌, ◌≤◌, length, IfSome};
 
-// A place in a line. `good` is false once a byte was not what the reader wants there, and stays so.
+// What is left of a line. What a reader wants and does not find there makes it answer `None`.
 #[derive(Clone, Copy)]
-pub(crate) struct Cursor {
-    pub at: usize,
-    pub good: bool,
+pub(crate) struct Line<'a> {
+    pub rest: &'a [u8],
 }
 
-// A number, and the place after its digits.
-#[derive(Clone, Copy)]
-pub(crate) struct Number {
-    pub value: u16,
-    pub next: Cursor,
-}
-
-// What a byte that is no digit counts as: too much for every base.
-const NO_DIGIT: u16 = 16;
-
-pub(crate) fn line_start() -> Cursor {
-    Cursor { at: 0, good: true }
-}
-
-fn after(cursor: Cursor) -> Cursor
-    requires { cursor.at + 1 < 2 ^ 64 }
-{
-    Cursor {
-        at: cursor.at + 1,
-        good: cursor.good,
+impl<'a> Line<'a> {
+    fn byte(&mut self) -> Option<u8>
+        ensures left { length self.new.rest.now ≤ length self.old.rest.now }
+        ensures taken { IfSome result (λ _. length self.new.rest.now < length self.old.rest.now) }
+    {
+        let (byte, rest) = self.rest.split_first()?;
+        self.rest = rest;
+        Some(*byte)
     }
-}
 
-fn failed(cursor: Cursor) -> Cursor {
-    Cursor {
-        at: cursor.at,
-        good: false,
-    }
-}
-
-// Moves past the byte `wanted`.
-pub(crate) fn expect(line: &[u8], cursor: Cursor, wanted: u8) -> Cursor {
-    let at = cursor.at;
-    if at < line.len() {
-        if line[at] == wanted {
-            return after(cursor);
+    // Moves past the byte `wanted`.
+    pub(crate) fn expect(&mut self, wanted: u8) -> Option<()>
+        ensures left { length self.new.rest.now ≤ length self.old.rest.now }
+        ensures taken { IfSome result (λ _. length self.new.rest.now < length self.old.rest.now) }
+    {
+        if self.byte()? == wanted {
+            Some(())
+        } else {
+            None
         }
     }
-    failed(cursor)
+
+    // One digit of a number that is written in `base`.
+    pub(crate) fn digit(&mut self, base: u16) -> Option<u16>
+        requires { base ≤ 16 }
+        ensures value { IfSome result (λ value. value < base) }
+        ensures left { length self.new.rest.now ≤ length self.old.rest.now }
+    {
+        let value = digit_value(self.byte()?)?;
+        if value < base { Some(value) } else { None }
+    }
+
+    // Four hexadecimal digits.
+    pub(crate) fn hex_word(&mut self) -> Option<u16>
+        ensures left { length self.new.rest.now ≤ length self.old.rest.now }
+    {
+        let high = self.hex_byte()?;
+        let low = self.hex_byte()?;
+        Some(high * 256 + low)
+    }
+
+    fn hex_byte(&mut self) -> Option<u16>
+        ensures value { IfSome result (λ value. value < 256) }
+        ensures left { length self.new.rest.now ≤ length self.old.rest.now }
+    {
+        let high = self.digit(16)?;
+        let low = self.digit(16)?;
+        Some(high * 16 + low)
+    }
+
+    // One or two decimal digits: no instruction takes a hundred cycles.
+    pub(crate) fn decimal(&mut self) -> Option<u16> {
+        let first = self.digit(10)?;
+        let mut ahead = *self;
+        let Some(second) = ahead.digit(10) else {
+            return Some(first);
+        };
+        *self = ahead;
+        Some(first * 10 + second)
+    }
 }
 
-fn digit_value(byte: u8) -> u16
-    ensures { result ≤ 16 }
+fn digit_value(byte: u8) -> Option<u16>
+    ensures { IfSome result (λ value. value < 16) }
 {
     match byte {
-        b'0'..=b'9' => (byte - b'0') as u16,
-        b'A'..=b'F' => (byte - b'A') as u16 + 10,
-        _ => NO_DIGIT,
-    }
-}
-
-// One digit of a number that is written in `base`.
-pub(crate) fn digit(line: &[u8], cursor: Cursor, base: u16) -> Number
-    requires { (0 < base) × (base ≤ 16) }
-    ensures { result.value < base }
-{
-    let at = cursor.at;
-    if at < line.len() {
-        let value = digit_value(line[at]);
-        if value < base {
-            return Number {
-                value: value,
-                next: after(cursor),
-            };
-        }
-    }
-    Number {
-        value: 0,
-        next: failed(cursor),
-    }
-}
-
-// Two hexadecimal digits.
-fn hex_byte(line: &[u8], cursor: Cursor) -> Number
-    ensures { result.value < 256 }
-{
-    let high = digit(line, cursor, 16);
-    let low = digit(line, high.next, 16);
-    let next = low.next;
-    Number {
-        value: high.value * 16 + low.value,
-        next: next,
-    }
-}
-
-// Four hexadecimal digits.
-pub(crate) fn hex_word(line: &[u8], cursor: Cursor) -> Number {
-    let high = hex_byte(line, cursor);
-    let low = hex_byte(line, high.next);
-    let next = low.next;
-    Number {
-        value: high.value * 256 + low.value,
-        next: next,
-    }
-}
-
-// One or two decimal digits: no instruction takes a hundred cycles.
-pub(crate) fn decimal(line: &[u8], cursor: Cursor) -> Number {
-    let first = digit(line, cursor, 10);
-    let second = digit(line, first.next, 10);
-    let next = second.next;
-    if next.good {
-        Number {
-            value: first.value * 10 + second.value,
-            next: next,
-        }
-    } else {
-        first
+        b'0'..=b'9' => Some(u16::from(byte - b'0')),
+        b'A'..=b'F' => Some(u16::from(byte - b'A') + 10),
+        _ => None,
     }
 }

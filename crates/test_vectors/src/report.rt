@@ -2,7 +2,8 @@
 ghost use Rattle.std.specs.Prelude.{◌+◌, ◌^◌, ◌<◌};
 ghost use Rattle.test_vectors.specs.Count.{Counted};
 
-use crate::compare::{Differences, Verdict};
+use crate::compare::Differences;
+use std::fmt;
 
 // The vectors that were run, those that do not agree, and the lines that are no vector.
 #[derive(Clone, Copy)]
@@ -12,52 +13,53 @@ pub(crate) struct Tally {
     pub malformed: u64,
 }
 
-fn write_if(rt: &impl Print, differs: bool, name: &str) {
-    if differs {
-        let _ = rt.print(name);
+impl fmt::Display for Tally {
+    fn fmt<W: fmt::Write>(&self, f: &mut fmt::Formatter<W>) -> fmt::Result {
+        let vectors = self.vectors;
+        let mismatches = self.mismatches;
+        let malformed = self.malformed;
+        write!(
+            f,
+            "{vectors} vectors, {mismatches} mismatches, {malformed} malformed"
+        )
     }
 }
 
 fn write_differences(rt: &impl Print, number: u64, found: Differences) {
     let _ = print!(rt; "line {number}:");
-    write_if(rt, found.registers, " registers");
-    write_if(rt, found.flags, " flags");
-    write_if(rt, found.cycles, " cycles");
-    write_if(rt, found.memory, " memory");
+    let parts = [
+        (found.registers, " registers"),
+        (found.flags, " flags"),
+        (found.cycles, " cycles"),
+        (found.memory, " memory"),
+    ];
+    for (differs, name) in parts {
+        if differs {
+            let _ = rt.print(name);
+        }
+    }
     let _ = println!(rt);
 }
 
-// Reports the verdict on the line after the first `lines`, and counts it.
-pub(crate) fn count(rt: &impl Print, tally: Tally, lines: u64, verdict: Verdict) -> Tally
+// Reports what was found on the line after the first `lines`, and counts it: nothing where it is malformed.
+pub(crate) fn count(rt: &impl Print, tally: Tally, lines: u64, found: Option<Differences>) -> Tally
     requires { Counted lines tally × (lines + 1 < 2 ^ 64) }
     ensures { Counted (lines + 1) result }
 {
+    let number = lines + 1;
     let mut counted = tally;
-    match verdict {
-        Verdict::Agrees => {
+    match found {
+        Some(found) => {
             counted.vectors += 1;
+            if found.is_any() {
+                write_differences(rt, number, found);
+                counted.mismatches += 1;
+            }
         }
-        Verdict::Differs(found) => {
-            write_differences(rt, lines + 1, found);
-            counted.vectors += 1;
-            counted.mismatches += 1;
-        }
-        Verdict::Malformed => {
-            let number = lines + 1;
+        None => {
             let _ = println!(rt; "line {number}: malformed");
             counted.malformed += 1;
         }
     }
     counted
-}
-
-pub(crate) fn write_summary(rt: &impl Print, tally: Tally) {
-    let vectors = tally.vectors;
-    let mismatches = tally.mismatches;
-    let malformed = tally.malformed;
-    let _ = println!(rt; "{vectors} vectors, {mismatches} mismatches, {malformed} malformed");
-}
-
-pub(crate) fn write_too_long(rt: &impl Print) {
-    let _ = println!(rt; "the input is too long");
 }

@@ -1,10 +1,6 @@
-use Prim.Native.Nat.{◌≤◌, ◌-◌}
-use lib.ListN.{length}
+use Rattle.std.specs.Iterator.Adapters.{enumerate_count}
 use Rattle.test_vectors.specs.Count.{Counted}
 use Rattle.test_vectors.proofs.run_lines.Given as goal
 
-abbrev pub invariant-loop-start : goal.invariant-loop-start
-invariant-loop-start g l = (l.lines ≤ l.start) × (l.start ≤ length l.text) × Counted l.lines l.tally
-
-abbrev pub decreases-loop-start : goal.decreases-loop-start
-decreases-loop-start g l = length l.text - l.start
+abbrev pub invariant-loop-lines : goal.invariant-loop-lines
+invariant-loop-lines g l = Counted (enumerate_count l.lines-iterator) l.tally

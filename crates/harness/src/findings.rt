@@ -1,0 +1,32 @@
+// What the meter answers for a region, as a case writes it: `answer=found longest=10 start=0012 over=0014`, or a refusal.
+ghost use Rattle.std.specs.Prelude.{◌≡◌};
+ghost use Rattle.harness.specs.Findings.{tells_longest, tells_findings};
+
+use crate::{answer, fields};
+use meter::{Findings, LongestWait};
+use refusal::Refusal;
+
+fn tells_longest(fields: &[u8], longest: Option<LongestWait>) -> bool
+    ensures { result ≡ tells_longest fields.now longest }
+{
+    let cycles = fields::find_number(fields, b"longest");
+    let start = fields::find_word(fields, b"start");
+    match longest {
+        None => cycles.is_none() & start.is_none(),
+        Some(wait) => (cycles == Some(u64::from(wait.cycles))) & (start == Some(wait.start)),
+    }
+}
+
+// Whether the fields tell this answer.
+pub fn are_told(fields: &[u8], given: Result<Findings, Refusal>) -> bool
+    ensures { result ≡ tells_findings fields.now given }
+{
+    match given {
+        Ok(found) => {
+            !answer::is_refused(fields)
+                & tells_longest(fields, found.longest)
+                & (fields::find_word(fields, b"over") == found.lowest)
+        }
+        Err(why) => answer::refuses(fields, refusal::number(why)),
+    }
+}
