@@ -106,6 +106,7 @@ const GRANT: Done = Done {
     cycles: 1,
 };
 
+#[tactic(auto, unfolding(crate::specs::Machine::reset_machine))]
 pub fn reset() -> State
     ensures { machine_of result ≡ reset_machine }
 {
