@@ -1,6 +1,6 @@
 -- Laws of numbers put into a room, and of the loop that puts them.
-use Prim.Native.Nat.{ℕ, min, ◌+◌, ◌-◌, ◌*◌, ◌/◌, ◌%◌, ◌<◌, ◌≤◌}
-use mathlib.Core.Path.{◌≡◌, refl, sym, ap, ◌∙◌}
+use Prim.Native.Nat.{ℕ, min, ◌+◌, ◌-◌, ◌*◌, ◌%◌, ◌<◌, ◌≤◌}
+use mathlib.Core.Path.{◌≡◌, refl, sym, ◌∙◌}
 use mathlib.Core.List.{List, [], ◌∷◌, ◌++◌, append-nil, append_assoc}
 use native.Mathlib.Omega.{arith}
 use native.Mathlib.Numerals.{add-one}
@@ -13,13 +13,6 @@ use Rattle.bigendian.specs.Numbers.{bytes_of, total, fitting, put_words}
 use Rattle.word.proofs.SetsLaws.{sets-split}
 use Rattle.bigendian.proofs.NumberLaws.{bytes-length, bytes-append, put-fits}
 use Rattle.bigendian.proofs.SumLaws.{total-step}
-
--- the bytes of a number, low byte first, are those of the exchanged number
-pub exchanged-bytes : (w e : ℕ) → w < 65536 → e ≡ w % 256 * 256 + w / 256 → e % 256 ∷ e / 256 ∷ [] ≡ bytes_of (w ∷ [])
-exchanged-bytes w e h f =
-    let high : e % 256 ≡ w / 256 = omega arith in
-    let low : e / 256 ≡ w % 256 = omega arith in
-    rw (high, low)
 
 -- numbers, and then others behind their bytes
 pub put-more : (d : List ℕ) (at : ℕ) (xs ys : List ℕ)
@@ -72,9 +65,6 @@ pub putting : (d : List ℕ) (at : ℕ) (ws : List ℕ) (n : ℕ) → Putting d 
 putting d at ws n = record { within = omega arith; laid = refl; sums = refl }
 
 module _ {d₀ : List ℕ} {at : ℕ} {ws d : List ℕ} {n sum i : ℕ} where
-  pub putting-length : Putting d₀ at ws d n sum i → length d ≡ length d₀
-  putting-length k = ap length k.laid ∙ length-sets d₀ at (bytes_of (take i ws))
-
   pub putting-on : {d' : List ℕ} {next : ℕ} → Putting d₀ at ws d n sum i → i < n → n ≤ length ws
       → d' ≡ sets d (at + i * 2) (bytes_of (get_or ws i 0 ∷ [])) → next ≡ wrap_add sum (get_or ws i 0) → Putting d₀ at ws d' n next (i + 1)
   unfolding wrap_add
@@ -101,9 +91,9 @@ module _ {d₀ : List ℕ} {at : ℕ} {ws d : List ℕ} {n sum i : ℕ} where
   putting-end k h e = let f = fitted k h e in (rw f at k.laid, rw f at k.sums)
 
 -- one number, of which both bytes fit or none is put
-pub one-put : (d : List ℕ) (at w n : ℕ) → n ≡ fitting (length d) at → 0 < n → sets d at (bytes_of (w ∷ [])) ≡ put_words d at (w ∷ [])
-one-put d at w n e h = sym (put-fits d at (w ∷ []) (omega arith))
+pub one_put : (d : List ℕ) (at w n : ℕ) → n ≡ fitting (length d) at → 0 < n → sets d at (bytes_of (w ∷ [])) ≡ put_words d at (w ∷ [])
+one_put d at w n e h = sym (put-fits d at (w ∷ []) (omega arith))
 
-pub none-put : (d : List ℕ) (at w n : ℕ) → n ≡ fitting (length d) at → n ≤ 0 → d ≡ put_words d at (w ∷ [])
+pub none_put : (d : List ℕ) (at w n : ℕ) → n ≡ fitting (length d) at → n ≤ 0 → d ≡ put_words d at (w ∷ [])
 unfolding put_words
-none-put d at w n e h = let z : fitting (length d) at ≡ 0 = omega arith in rw z
+none_put d at w n e h = let z : fitting (length d) at ≡ 0 = omega arith in rw z

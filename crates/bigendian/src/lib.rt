@@ -5,52 +5,29 @@ ghost use Rattle.std.specs.Prelude.{◌≡◌, [], ◌∷◌, min, ◌+◌, ◌-
 ghost use Rattle.std.proofs.lemmas.List.Edits.{sets};
 ghost use Rattle.bigendian.specs.Numbers.{word_at, words_of, all_words, bytes_of, total, fitting, put_words};
 
-fn wide(byte: u8) -> u16
-    ensures { (result ≡ byte) × (result < 256) }
-{
-    byte as u16
-}
-
 // The byte at a place, 0 past the end.
-fn byte_at(bytes: &[u8], at: usize) -> u16
-    ensures { (result ≡ get_or bytes.now at 0) × (result < 256) }
+fn byte_at(bytes: &[u8], at: usize) -> u8
+    ensures { result ≡ get_or bytes.now at 0 }
 {
-    if at < bytes.len() { wide(bytes[at]) } else { 0 }
+    bytes.get(at).copied().unwrap_or(0)
 }
 
 // The number at a place.
+#[tactic(auto, unfolding(crate::specs::Numbers::word_at))]
 pub fn word_at(bytes: &[u8], at: usize) -> u16
     ensures { result ≡ word_at bytes.now at }
 {
     if bytes.len() <= at {
         return 0;
     }
-    let high = byte_at(bytes, at);
-    let low = byte_at(bytes, at + 1);
-    high * 256 + low
+    u16::from_be_bytes([byte_at(bytes, at), byte_at(bytes, at + 1)])
 }
 
 // How many whole numbers a room of `size` bytes has from a place on.
 fn fitting_words(size: usize, at: usize) -> usize
     ensures { result ≡ fitting size at }
 {
-    if size <= at { 0 } else { (size - at) / 2 }
-}
-
-// A number with its two bytes exchanged.
-fn exchanged(word: u16) -> u16
-    ensures { result ≡ word % 256 * 256 + word / 256 }
-{
-    word % 256 * 256 + word / 256
-}
-
-// A number in two bytes of a room, little-endian: the low byte first.
-fn put_little_endian(room: &mut [u8], at: usize, word: u16)
-    requires { at + 2 ≤ length room.old }
-    ensures { room.new ≡ sets room.old at (word % 256 ∷ word / 256 ∷ []) }
-{
-    room[at] = (word % 256) as u8;
-    room[at + 1] = (word / 256) as u8;
+    size.saturating_sub(at) / 2
 }
 
 // A number in two bytes of a room. The compiler makes one store of the two only where the low one comes first, so they are exchanged.
@@ -58,10 +35,11 @@ fn put_pair(room: &mut [u8], at: usize, word: u16)
     requires { at + 2 ≤ length room.old }
     ensures { room.new ≡ sets room.old at (bytes_of (word ∷ [])) }
 {
-    put_little_endian(room, at, exchanged(word));
+    room[at..at + 2].copy_from_slice(&word.swap_bytes().to_le_bytes());
 }
 
 // A number put at a place, if the room has both its bytes.
+#[tactic(auto, using(crate::proofs::PutLaws::one_put, crate::proofs::PutLaws::none_put))]
 pub fn put_word(room: &mut [u8], at: usize, word: u16)
     ensures { room.new ≡ put_words room.old at (word ∷ []) }
 {
@@ -70,39 +48,29 @@ pub fn put_word(room: &mut [u8], at: usize, word: u16)
     }
 }
 
-fn smaller(a: usize, b: usize) -> usize
-    ensures { result ≡ min a b }
-{
-    if a < b { a } else { b }
-}
-
 // Numbers put from a place on, one behind the other, as many as the room has. Answers the sum of those that were put, so that a writer
 // reads each of them once.
 pub fn put_words(room: &mut [u8], at: usize, words: &[u16]) -> u16
     ensures { (room.new ≡ put_words room.old at words.now)
         × (result ≡ total (take (fitting (length room.old) at) words.now) % 65536) }
 {
-    let count = smaller(fitting_words(room.len(), at), words.len());
+    let count = fitting_words(room.len(), at).min(words.len());
     let mut sum: u16 = 0;
-    let mut i = 0;
-    while i < count {
-        let number = words[i];
-        put_pair(room, at + i * 2, number);
-        sum = word::wrapping_add(sum, number);
-        i += 1;
+    for (i, number) in words[..count].iter().enumerate() {
+        put_pair(room, at + i * 2, *number);
+        sum = word::wrapping_add(sum, *number);
     }
     sum
 }
 
 // The number at a place, read as little-endian. The compiler makes one load of its two bytes, and of `word_at` in a loop two.
+#[tactic(auto, unfolding(crate::specs::Numbers::word_at))]
 fn little_endian_at(bytes: &[u8], at: usize) -> u16
     requires { at + 1 < length bytes.now }
     ensures { (result ≡ get_or bytes.now at 0 + get_or bytes.now (at + 1) 0 * 256)
         × (result % 256 * 256 + result / 256 ≡ word_at bytes.now at) }
 {
-    let first = wide(bytes[at]);
-    let second = wide(bytes[at + 1]);
-    second * 256 + first
+    u16::from_le_bytes([bytes[at], bytes[at + 1]])
 }
 
 // The numbers at the front of the bytes, as many as there is room for.
@@ -110,10 +78,8 @@ fn fill_words(bytes: &[u8], words: &mut [u16])
     requires { length words.old * 2 ≤ length bytes.now }
     ensures { words.new ≡ words_of (length words.old) bytes.now }
 {
-    let mut i = 0;
-    while i < words.len() {
-        words[i] = exchanged(little_endian_at(bytes, i * 2));
-        i += 1;
+    for (i, word) in words.iter_mut().enumerate() {
+        *word = little_endian_at(bytes, i * 2).swap_bytes();
     }
 }
 
@@ -121,8 +87,8 @@ fn fill_words(bytes: &[u8], words: &mut [u16])
 pub fn read_words(bytes: &[u8], words: &mut [u16], at: usize)
     ensures { words.new ≡ sets words.old at (all_words bytes.now) }
 {
-    let start = smaller(at, words.len());
-    let end = start + smaller(bytes.len() / 2, words.len() - start);
+    let start = at.min(words.len());
+    let end = start + (bytes.len() / 2).min(words.len() - start);
     fill_words(bytes, &mut words[start..end]);
 }
 
@@ -135,11 +101,9 @@ pub fn sum_words(bytes: &[u8]) -> u16
     if count == 0 {
         return 0;
     }
-    let mut sum = wide(bytes[0]) * 256;
-    let mut i = 1;
-    while i < count {
+    let mut sum = u16::from(bytes[0]) * 256;
+    for i in 1..count {
         sum = word::wrapping_add(sum, little_endian_at(bytes, i * 2 - 1));
-        i += 1;
     }
-    word::wrapping_add(sum, wide(bytes[count * 2 - 1]))
+    word::wrapping_add(sum, u16::from(bytes[count * 2 - 1]))
 }

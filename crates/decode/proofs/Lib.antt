@@ -1,5 +1,4 @@
 -- Laws of the decoder and of the row table.
-pub mod InstructionLaws
 pub mod OpcodeLaws
 pub mod DecodeLaws
 pub mod RowLaws

@@ -3,6 +3,7 @@ ghost use Rattle.std.specs.Prelude.{◌≡◌};
 ghost use Rattle.decode.specs.Fields.{joined, branch_target, is_always, is_nopp, return_of, has_return, jump_target};
 
 // The low bytes of two words, low half first.
+#[tactic(auto, unfolding(crate::specs::Fields::joined))]
 pub fn join(low: u16, high: u16) -> u16
     ensures { result ≡ joined low high }
 {
@@ -10,6 +11,7 @@ pub fn join(low: u16, high: u16) -> u16
 }
 
 // Bit 5 of a branch is its direction.
+#[tactic(auto, using(std::proofs::lemmas::Bool::Decides::nat_tests), unfolding(crate::specs::Fields::branch_target))]
 pub fn branch_target(at: u16, b: u16, displacement: u16) -> u16
     ensures { result ≡ branch_target at b displacement }
 {
@@ -21,7 +23,7 @@ pub fn branch_target(at: u16, b: u16, displacement: u16) -> u16
     }
 }
 
-// B, forward and backward.
+// B, forward and backward. (This and NOPP are two tests by the names of the table: one that is given the number would say neither.)
 pub fn is_always(b: u16) -> bool
     ensures { result ≡ is_always b }
 {
@@ -36,6 +38,7 @@ pub fn is_nopp(b: u16) -> bool
 }
 
 // A jump that saves its return address in R4, R5 or R6, by its second word: a JSR.
+#[tactic(auto, using(std::proofs::lemmas::Bool::Decides::nat_tests), unfolding(crate::specs::Fields::return_of))]
 pub fn has_return(second: u16) -> bool
     ensures { result ≡ has_return (return_of second) }
 {
@@ -43,6 +46,7 @@ pub fn has_return(second: u16) -> bool
 }
 
 // Where a jump goes, by its second and third word.
+#[tactic(auto, unfolding(crate::specs::Fields::jump_target))]
 pub fn jump_target(second: u16, third: u16) -> u16
     ensures { result ≡ jump_target second third }
 {

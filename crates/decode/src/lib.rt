@@ -14,7 +14,8 @@ pub mod fields;
 pub mod rows;
 
 // An instruction: a kind for each line of document 01's table, with its fields. s is bits 5 to 3 of the opcode, d bits 2 to 0.
-// (Bits 9 to 6 as a byte make the whole six bytes long, which the compiler leaves in parts; eight it would pack into one number.)
+// (Bits 9 to 6 as a byte make the whole six bytes long, which the compiler leaves in parts; eight it would pack into one number. The fields stay the
+// opcode's bits, and are no enums: `opcode_for` and `InRange` of specs/ speak of these numbers, and each row would take an enum apart again.)
 #[derive(Clone, Copy)]
 pub enum Instr {
     // 000
@@ -44,6 +45,7 @@ pub enum Instr {
 }
 
 // Opcodes 000 to 007.
+#[tactic(auto, using(std::proofs::lemmas::Bool::Decides::nat_tests), unfolding(crate::specs::Decode::control_instruction))]
 fn control_instruction(d: u16) -> Instr
     ensures { result ≡ control_instruction d }
 {
@@ -55,6 +57,7 @@ fn control_instruction(d: u16) -> Instr
 }
 
 // Opcodes 030 to 037.
+#[tactic(auto, using(std::proofs::lemmas::Bool::Decides::nat_tests), unfolding(crate::specs::Decode::status_instruction))]
 fn status_instruction(d: u16) -> Instr
     ensures { result ≡ status_instruction d }
 {
@@ -71,6 +74,7 @@ fn status_instruction(d: u16) -> Instr
 }
 
 // Opcodes 000 to 03F.
+#[tactic(auto, using(std::proofs::lemmas::Bool::Decides::nat_tests), unfolding(crate::specs::Decode::low_instruction))]
 fn low_instruction(s: u16, d: u16) -> Instr
     ensures { result ≡ low_instruction s d }
 {
@@ -83,6 +87,7 @@ fn low_instruction(s: u16, d: u16) -> Instr
 
 // The instruction of an opcode. Tests in pairs, and no `match` on w / 64: so the compiler takes the decoder for small enough to be made
 // one with each of its callers. Fields are taken where they are needed, which saves a step some machine instructions.
+#[tactic(auto, using(std::proofs::lemmas::Bool::Decides::nat_tests), unfolding(crate::specs::Decode::instruction_of))]
 pub fn instruction(w: u16) -> Instr
     ensures { result ≡ instruction_of w }
 {
@@ -111,18 +116,10 @@ pub fn writes_r7(instr: Instr) -> bool
     ensures { result ≡ writes_r7 instr }
 {
     match instr {
-        Instr::Hlt => false,
-        Instr::Control(_) => false,
-        Instr::Jump => false,
         Instr::Single(s, d) => (d == 7) & (s != 7),
-        Instr::Gswd(_) => false,
-        Instr::Nop(_) => false,
-        Instr::Sin(_) => false,
-        Instr::Shift(_, _) => false,
         Instr::Register(row, _, d) => (d == 7) & (row != 5),
-        Instr::Branch(_) => false,
-        Instr::Store(_, _) => false,
         Instr::Read(row, _, d) => (d == 7) & (row != 13),
+        _ => false,
     }
 }
 
@@ -138,23 +135,15 @@ fn is_unspecified_at(
     ensures { result ≡ unspecified_form (read_of (bus_on (in_front near board) mem.now)) at instr double }
 {
     match instr {
-        Instr::Hlt => false,
-        Instr::Control(_) => false,
         Instr::Jump => memory::read(board, near, mem, word::wrapping_add(at, 1)) % 4 == 3,
-        Instr::Single(_, _) => false,
-        Instr::Gswd(_) => false,
-        Instr::Nop(_) => false,
-        Instr::Sin(_) => false,
-        Instr::Shift(_, _) => false,
-        Instr::Register(_, _, _) => false,
-        Instr::Branch(_) => false,
-        Instr::Store(_, _) => false,
         Instr::Read(_, s, _) => double & (s == 6),
+        _ => false,
     }
 }
 
 // An instruction at an address, unless its form is unspecified there. Only of a jump the second word is read. (The step and the walk read the
 // opcode themselves and call this: one function for both would be too long to be made one with their loops.)
+#[tactic(auto, unfolding(crate::specs::Decode::specified))]
 pub fn specified_at(
     board: Board,
     near: Range,
@@ -170,6 +159,7 @@ pub fn specified_at(
 }
 
 // The instruction at an address.
+#[tactic(auto, using(crate::proofs::DecodeLaws::decodes))]
 pub fn decode_at(board: Board, near: Range, mem: &[u16], at: u16, double: bool) -> Option<Instr>
     ensures { Decodes (read_of (bus_on (in_front near board) mem.now)) at double result }
 {
@@ -178,6 +168,7 @@ pub fn decode_at(board: Board, near: Range, mem: &[u16], at: u16, double: bool) 
 }
 
 // The instruction of two words with D clear: then only a jump can be unspecified.
+#[tactic(auto, unfolding(crate::specs::Decode::decode_words))]
 pub fn decode_words(first: u16, second: u16) -> Option<Instr>
     ensures { result ≡ decode_words first second }
 {

@@ -1,9 +1,23 @@
--- Laws of bytes that are put into a room one by one.
-use Rattle.std.proofs.Common.{◌≡◌, ℕ, suc, ◌+◌, ◌<◌, ◌≤◌, min, List, [], ◌∷◌, length, drop, set, sym, refl, ◌∙◌, add-one, arith}
-use native.Mathlib.Nat.{min_comm, min-eq_left}
+-- Laws of bytes that are put into a room one by one, of which i were put.
+use Rattle.std.proofs.Common.{◌≡◌, ℕ, suc, ◌+◌, ◌*◌, ◌<◌, ◌≤◌, min, inl, inr, List, [], ◌∷◌, length, drop, set, refl, add-one, arith, length-drop}
+use Rattle.std.proofs.lemmas.Bool.{cases_lt}
+use Rattle.std.proofs.lemmas.List.{drop-drop}
 use lib.Seq.{set_out}
 use Rattle.harness.specs.Text.{hex_number}
 use Rattle.harness.specs.Bytes.{pair_bytes, with_bytes}
+
+-- a byte for each two digits, and one for a last digit that stands alone
+pub pairs-enough : (digits : List ℕ) → length digits ≤ 2 * length (pair_bytes digits)
+unfolding pair_bytes
+pairs-enough [] = omega arith
+pairs-enough (a ∷ []) = omega arith
+pairs-enough (a ∷ b ∷ digits) = omega (arith, pairs-enough digits)
+
+pub pairs-few : (digits : List ℕ) → 2 * length (pair_bytes digits) ≤ length digits + 1
+unfolding pair_bytes
+pairs-few [] = omega arith
+pairs-few (a ∷ []) = omega arith
+pairs-few (a ∷ b ∷ digits) = omega (arith, pairs-few digits)
 
 -- the bytes of digits: that of the first pair, and those of the digits behind it
 bytes-of-more : (digits : List ℕ) → 0 < length digits → pair_bytes digits ≡ hex_number 2 digits ∷ pair_bytes (drop 2 digits)
@@ -23,31 +37,23 @@ unfolding with_bytes
 past_end at [] room h = refl
 past_end at (b ∷ bytes) room h = rw (set_out room at b h) (past_end (suc at) bytes room (omega arith))
 
--- the digits that are left, and the place that is reached
-module _ (rest room : List ℕ) (i : ℕ) where
+module _ (digits room : List ℕ) (i : ℕ) where
+  -- one byte more
   pub one_more :
-      0 < length rest →
-      with_bytes (i + 1) (pair_bytes (drop 2 rest)) (set room i (hex_number 2 rest)) ≡ with_bytes i (pair_bytes rest) room
+      2 * i < length digits →
+      with_bytes (i + 1) (pair_bytes (drop (2 * (i + 1)) digits)) (set room i (hex_number 2 (drop (2 * i) digits)))
+      ≡ with_bytes i (pair_bytes (drop (2 * i) digits)) room
   unfolding with_bytes
-  one_more h = rw (add-one, bytes-of-more rest h)
+  one_more h =
+      let e : 2 * (i + 1) ≡ 2 * i + 2 = omega arith in
+      let d : drop (2 * (i + 1)) digits ≡ drop 2 (drop (2 * i) digits) = rw (e, drop-drop) in
+      rw (d, add-one, bytes-of-more (drop (2 * i) digits) (omega (arith, length-drop (2 * i) digits)))
 
-  pub count-more : 0 < length rest → i + 1 + length (pair_bytes (drop 2 rest)) ≡ i + length (pair_bytes rest)
-  count-more h = rw (bytes-of-more rest h) (omega arith)
-
-  pub none_left : length rest ≤ 0 → with_bytes i (pair_bytes rest) room ≡ room
+  -- no digit is left, or no room
+  pub all_put : min (length (pair_bytes digits)) (length room) ≤ i → with_bytes i (pair_bytes (drop (2 * i) digits)) room ≡ room
   unfolding with_bytes
-  none_left h = rw (bytes-of-none rest h)
-
-  pub no_room : length room ≤ i → with_bytes i (pair_bytes rest) room ≡ room
-  no_room h = past_end i (pair_bytes rest) room h
-
-  pub count_none : length rest ≤ 0 → i + length (pair_bytes rest) ≡ i
-  count_none h = rw (bytes-of-none rest h) (omega arith)
-
--- the count where the bytes end inside the room, and where the room ends first
-module _ (bytes room i : ℕ) where
-  pub count-all : i ≡ bytes → i ≤ room → i ≡ min bytes room
-  count-all e h = e ∙ sym (min-eq_left (omega arith))
-
-  pub count_room : i ≤ bytes → i ≡ room → i ≡ min bytes room
-  count_room h e = e ∙ sym (min_comm bytes room ∙ min-eq_left (omega arith))
+  all_put h =
+      elim (cases_lt i (length room)) [
+        | inl more ↦ rw (bytes-of-none (drop (2 * i) digits) (omega (arith, length-drop (2 * i) digits, pairs-enough digits)))
+        | inr full ↦ past_end i (pair_bytes (drop (2 * i) digits)) room full
+      ]

@@ -1,9 +1,8 @@
 -- Laws of the fields of a row.
-use Rattle.std.proofs.Common.{◌≡◌, ℕ, zero, suc, ◌+◌, ◌-◌, ◌*◌, ◌<◌, ◌≤◌, Bool, true, false, cond, List, [], ◌∷◌, length, get_or, drop, set, refl, ap, add-one, arith, length-drop, drop-cons, drop-drop}
+use Rattle.std.proofs.Common.{◌≡◌, ℕ, zero, suc, ◌+◌, ◌-◌, ◌*◌, ◌<◌, ◌≤◌, Bool, true, false, cond, List, [], ◌∷◌, length, drop, set, refl, ap, arith, length-drop, drop-drop}
 use Rattle.harness.specs.Text.{quoted, length_before, part_behind, hex_number}
-use Rattle.harness.specs.Fields.{after_first_field, fields_by, fields_of, starts_with_key, first_with_key}
-use Rattle.harness.specs.Forms.{first_fits, all_fit, fits_column, fit_columns, without_first, are_picked}
-use Rattle.harness.specs.Words.{with_first, with_all, is_inside, all_inside, with_list}
+use Rattle.harness.specs.Fields.{after_first_field, fields_by, fields_of, starts_with_key}
+use Rattle.harness.specs.Words.{with_list}
 
 -- what follows the first field is shorter
 pub after-shorter : (row : List ℕ) → length (after_first_field row) ≤ length row - 1
@@ -40,55 +39,6 @@ pub fields-of-none : (row : List ℕ) → length row ≤ 0 → fields_of row ≡
 unfolding fields_of fields_by
 fields-of-none [] h = refl
 fields-of-none (b ∷ row) h = absurd (omega arith)
-
--- the key is nowhere in an empty row
-pub key-nowhere : (row key : List ℕ) → length row ≤ 0 → first_with_key (fields_of row) key ≡ row
-key-nowhere [] key h = rw (fields-of-none [] h)
-key-nowhere (b ∷ row) key h = absurd (omega arith)
-
--- what holds of all fields of a row, from the first and from those that follow it
-module _ (row : List ℕ) (h : 0 < length row) where
-  pub key_here : (key : List ℕ) → starts_with_key row key ≡ true → first_with_key (fields_of row) key ≡ row
-  key_here key e = rw (fields-of-more row h, e)
-
-  pub key-later :
-      (key : List ℕ) →
-      starts_with_key row key ≡ false →
-      first_with_key (fields_of (after_first_field row)) key ≡ first_with_key (fields_of row) key
-  key-later key e = rw (fields-of-more row h, e)
-
-  pub first-misfits : (form : List ℕ) → first_fits row form ≡ false → all_fit (fields_of row) form ≡ false
-  first-misfits form e = rw (fields-of-more row h, e)
-
-  pub first_fits-of :
-      (form : List ℕ) → first_fits row form ≡ true → all_fit (fields_of (after_first_field row)) form ≡ all_fit (fields_of row) form
-  first_fits-of form e = rw (fields-of-more row h, e)
-
-  pub first-outside : (size : ℕ) → is_inside row size ≡ false → all_inside (fields_of row) size ≡ false
-  first-outside size e = rw (fields-of-more row h, e)
-
-  pub first-inside :
-      (size : ℕ) → is_inside row size ≡ true → all_inside (fields_of (after_first_field row)) size ≡ all_inside (fields_of row) size
-  first-inside size e = rw (fields-of-more row h, e)
-
-  pub first-put :
-      (memory : List ℕ) → with_all (fields_of (after_first_field row)) (with_first row memory) ≡ with_all (fields_of row) memory
-  first-put memory = rw (fields-of-more row h)
-
--- one column more of a list of words
-module _ (value : List ℕ) (i : ℕ) (h : i < length value) where
-  pub column-misfits : fits_column (get_or value i 0) i ≡ false → fit_columns i (drop i value) ≡ false
-  column-misfits e = rw (drop-cons value i 0, e)
-
-  pub column_fits : fits_column (get_or value i 0) i ≡ true → fit_columns (i + 1) (drop (i + 1) value) ≡ fit_columns i (drop i value)
-  column_fits e = rw (add-one, drop-cons value i 0, e)
-
--- one letter more
-pub one-picked :
-    (letters value : List ℕ) (i : ℕ) →
-    i < length letters →
-    are_picked (drop (i + 1) letters) (without_first value (get_or letters i 0)) ≡ are_picked (drop i letters) value
-one-picked letters value i h = rw (add-one, drop-cons letters i 0)
 
 -- one word more
 pub one-put :

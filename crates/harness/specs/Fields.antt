@@ -1,6 +1,9 @@
 -- Rows of named fields: `key=value`, separated by blanks.
-use Rattle.std.specs.Prelude.{ℕ, zero, suc, Bool, cond, ◌&&◌, List, [], ◌∷◌, length, ◌==◌, nat_lt, slice_index}
+use Rattle.std.specs.Prelude.{ℕ, zero, suc, Bool, cond, ◌&&◌, List, [], ◌∷◌, length, ◌==◌, slice_index, is_some, Option, Some, None}
+use Rattle.std.specs.List.{find}
+use Rattle.std.specs.Option.{unwrap_or}
 use Prim.Native.Char.{code}
+use Rattle.harness.specs.declared.fields.Fields.{Fields}
 use Rattle.harness.specs.Text.{quoted, part_before, part_behind, starts_with, equal_text, stands_in, hex_number, decimal_number}
 
 -- a row's first word
@@ -10,6 +13,10 @@ kind_of_row = part_before (code " ")
 -- what follows it and a blank
 abbrev pub body_of_row : List ℕ → List ℕ
 body_of_row = part_behind (code " ")
+
+-- .. if its first word is this one
+abbrev pub body_of_kind : List ℕ → List ℕ → Option (List ℕ)
+body_of_kind row word = cond (equal_text (kind_of_row row) word) (Some (body_of_row row)) None
 
 -- a row starts with a field of this key
 abbrev pub starts_with_key : List ℕ → List ℕ → Bool
@@ -32,16 +39,20 @@ fields_by (suc n) (b ∷ row) = (b ∷ row) ∷ fields_by n (after_first_field (
 unfoldable pub fields_of : List ℕ → List (List ℕ)
 fields_of row = fields_by (length row) row
 
--- the first that has the key, or nothing
-abbrev pub first_with_key : List (List ℕ) → List ℕ → List ℕ
-first_with_key [] key = []
-first_with_key (field ∷ fields) key = cond (starts_with_key field key) field (first_with_key fields key)
+-- those that are still to come
+abbrev pub fields_left : Fields → List (List ℕ)
+fields_left s = fields_of s.rest.now
 
+-- the row from the first field with the key on
+abbrev pub find_key : List ℕ → List ℕ → Option (List ℕ)
+find_key row key = find (λ field. starts_with_key field key) (fields_of row)
+
+-- .. or nothing
 abbrev pub from_key : List ℕ → List ℕ → List ℕ
-from_key row key = first_with_key (fields_of row) key
+from_key row key = unwrap_or (find_key row key) []
 
 abbrev pub has_key : List ℕ → List ℕ → Bool
-has_key row key = nat_lt 0 (length (from_key row key))
+has_key row key = is_some (find_key row key)
 
 -- the value of the row's first field
 abbrev pub first_value : List ℕ → List ℕ

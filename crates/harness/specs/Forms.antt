@@ -1,7 +1,8 @@
 -- The form of a row of fields: a row that gives each key the form of its values.
-use Rattle.std.specs.Prelude.{ℕ, zero, suc, ◌%◌, Bool, true, false, cond, not, ◌&&◌, ◌||◌, List, [], ◌∷◌, length, drop, ◌==◌, nat_le, nat_lt, slice_index, slice_index_or}
+use Rattle.std.specs.Prelude.{ℕ, ◌%◌, Bool, true, cond, if◌then◌else◌, not, ◌&&◌, ◌||◌, List, [], ◌∷◌, length, drop, ◌==◌, nat_le, nat_lt, slice_index}
+use Rattle.std.specs.List.{list_all, enumerate_from, slice_split}
 use Prim.Native.Char.{code}
-use Rattle.harness.specs.Text.{quoted, part_before, part_behind, equal_text, stands_in, all_stand_in}
+use Rattle.harness.specs.Text.{quoted, count_of, part_before, part_behind, equal_text, stands_in, all_stand_in}
 use Rattle.harness.specs.Fields.{first_field, after_first_field, starts_with_key, fields_of, has_key, value_of_key, first_value}
 
 abbrev pub decimal_digits : List ℕ
@@ -17,13 +18,9 @@ is_word value = length value == 4 && all_stand_in value hex_digits
 unfoldable pub fits_column : ℕ → ℕ → Bool
 fits_column byte column = cond (column % 5 == 4) (byte == (code ",")) (stands_in byte hex_digits)
 
-abbrev pub fit_columns : ℕ → List ℕ → Bool
-fit_columns column [] = true
-fit_columns column (b ∷ value) = fits_column b column && fit_columns (suc column) value
-
 -- words with commas between them
 unfoldable pub is_list : List ℕ → Bool
-is_list value = length value % 5 == 4 && fit_columns 0 value
+is_list value = length value % 5 == 4 && list_all (λ p. fits_column p.1 p.0) (enumerate_from 0 value)
 
 abbrev pub is_number : List ℕ → Bool
 is_number value = (nat_lt 0 (length value) && nat_le (length value) 18) && all_stand_in value decimal_digits
@@ -46,9 +43,7 @@ is_range value =
 
 -- ranges with commas between them, at most so many
 unfoldable pub are_ranges : ℕ → List ℕ → Bool
-are_ranges zero value = false
-are_ranges (suc n) value =
-    is_range (part_before (code ",") value) && cond (stands_in (code ",") value) (are_ranges n (part_behind (code ",") value)) true
+are_ranges n value = nat_lt (count_of (code ",") value) n && list_all is_range (slice_split (λ b. b == (code ",")) value)
 
 -- .. or `none`; one range more can be written than a board takes
 abbrev pub is_map_text : List ℕ → Bool
@@ -69,15 +64,15 @@ are_letters value letters = equal_text value (quoted "-") || (nat_lt 0 (length v
 -- word, list, number, bit, hex, map, any, or capital letters: the form's first letter tells which
 unfoldable pub has_form : List ℕ → List ℕ → Bool
 has_form value form =
-    let letter : ℕ = slice_index_or form 0 0 in
-    ((((((((letter == (code "w") && is_word value)
-    || (letter == (code "l") && is_list value))
-    || (letter == (code "n") && is_number value))
-    || (letter == (code "b") && is_bit value))
-    || (letter == (code "h") && is_hex value))
-    || (letter == (code "m") && is_map_text value))
-    || letter == (code "a"))
-    || ((nat_le (code "A") letter && nat_le letter (code "Z")) && are_letters value form))
+    let letter : ℕ = slice_index form 0 in
+    if letter == (code "w") then is_word value
+    else if letter == (code "l") then is_list value
+    else if letter == (code "n") then is_number value
+    else if letter == (code "b") then is_bit value
+    else if letter == (code "h") then is_hex value
+    else if letter == (code "m") then is_map_text value
+    else if letter == (code "a") then true
+    else ((nat_le (code "A") letter && nat_le letter (code "Z")) && are_letters value form)
 
 -- the key of the row's first field
 abbrev pub first_key : List ℕ → List ℕ
@@ -94,9 +89,5 @@ first_fits row form =
     ((starts_with_key row (first_key row) && not (has_key (after_first_field row) (first_key row)))
     && has_form (first_value row) (form_of_key form (first_key row)))
 
-abbrev pub all_fit : List (List ℕ) → List ℕ → Bool
-all_fit [] form = true
-all_fit (field ∷ fields) form = first_fits field form && all_fit fields form
-
 abbrev pub fit_form : List ℕ → List ℕ → Bool
-fit_form row form = all_fit (fields_of row) form
+fit_form row form = list_all (λ field. first_fits field form) (fields_of row)

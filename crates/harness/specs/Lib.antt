@@ -2,6 +2,7 @@
 pub mod Text
 pub mod Bytes
 pub mod Fields
+pub mod Cases
 pub mod Forms
 pub mod Answers
 pub mod Tally

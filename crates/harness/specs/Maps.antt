@@ -1,12 +1,12 @@
 -- The board that a field writes: its map, as `0000-00EF:ram8,5000-6FFF:rom`.
-use Rattle.std.specs.Prelude.{ℕ, zero, suc, cond, List, [], ◌∷◌}
+use Rattle.std.specs.Prelude.{ℕ, zero, suc, ◌+◌, min, cond, List, [], ◌∷◌}
 use Prim.Native.Char.{code}
 use Rattle.memory.specs.declared.map.Kind.{Kind}
 use Rattle.memory.specs.declared.map.Kind.TheVariants.{Rom, Ram16, Ram8}
 use Rattle.memory.specs.declared.map.Range.{Range}
 use Rattle.memory.specs.declared.map.Board.{Board}
 use Rattle.memory.specs.Map.{all_ram}
-use Rattle.harness.specs.Text.{quoted, part_before, part_behind, equal_text, stands_in, hex_number}
+use Rattle.harness.specs.Text.{quoted, count_of, part_before, part_behind, equal_text, hex_number}
 use Rattle.harness.specs.Fields.{has_key, value_of_key}
 
 unfoldable pub kind_written : List ℕ → Kind
@@ -24,9 +24,8 @@ ranges_written zero list = []
 ranges_written (suc n) list = range_written (part_before (code ",") list) ∷ ranges_written n (part_behind (code ",") list)
 
 -- how many ranges a list has, counted as far as n
-unfoldable pub count_written : ℕ → List ℕ → ℕ
-count_written zero list = 0
-count_written (suc n) list = suc (cond (stands_in (code ",") list) (count_written n (part_behind (code ",") list)) 0)
+abbrev pub count_written : ℕ → List ℕ → ℕ
+count_written n list = min (count_of (code ",") list + 1) n
 
 -- a board with the map that a value writes; a 17th range is only counted, which is what a board with too many looks like
 unfoldable pub board_written : List ℕ → Board

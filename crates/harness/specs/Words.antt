@@ -1,5 +1,6 @@
 -- Runs of words.
-use Rattle.std.specs.Prelude.{ℕ, zero, suc, ◌+◌, ◌/◌, Bool, true, cond, ◌&&◌, List, [], ◌∷◌, length, drop, nat_le, slice_set}
+use Rattle.std.specs.Prelude.{ℕ, zero, suc, ◌+◌, ◌/◌, Bool, cond, not, ◌||◌, List, [], ◌∷◌, length, drop, nat_le, slice_set}
+use Rattle.std.specs.List.{list_all}
 use Rattle.harness.specs.Text.{hex_number}
 use Rattle.harness.specs.Fields.{fields_of, first_value}
 use Rattle.harness.specs.Forms.{is_word, first_key}
@@ -33,12 +34,8 @@ abbrev pub with_words : List ℕ → List ℕ → List ℕ
 with_words row memory = with_all (fields_of row) memory
 
 unfoldable pub is_inside : List ℕ → ℕ → Bool
-is_inside row size = cond (tells_words row) (nat_le (hex_number 4 row + words_in_list (first_value row)) size) true
-
-abbrev pub all_inside : List (List ℕ) → ℕ → Bool
-all_inside [] size = true
-all_inside (field ∷ fields) size = is_inside field size && all_inside fields size
+is_inside row size = not (tells_words row) || nat_le (hex_number 4 row + words_in_list (first_value row)) size
 
 -- whether all words that a row's fields tell lie inside a memory of this size
 abbrev pub are_inside : List ℕ → ℕ → Bool
-are_inside row size = all_inside (fields_of row) size
+are_inside row size = list_all (λ field. is_inside field size) (fields_of row)

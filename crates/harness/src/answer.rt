@@ -4,6 +4,7 @@ ghost use Rattle.harness.specs.Answers.{tells_refusal, refuses_by, answer_fits};
 
 use crate::{fields, form};
 
+#[tactic(auto, unfolding(crate::specs::Answers::tells_refusal))]
 pub fn is_refused(fields: &[u8]) -> bool
     ensures { result ≡ tells_refusal fields.now }
 {
@@ -11,6 +12,7 @@ pub fn is_refused(fields: &[u8]) -> bool
 }
 
 // Whether the call is refused with this number.
+#[tactic(auto, unfolding(crate::specs::Answers::refuses_by))]
 pub fn refuses(fields: &[u8], number: u16) -> bool
     ensures { result ≡ refuses_by fields.now number }
 {
@@ -18,6 +20,7 @@ pub fn refuses(fields: &[u8], number: u16) -> bool
 }
 
 // Whether the call is refused and nothing else is told, or its answer has this name and the fields fit the form.
+#[tactic(auto, unfolding(crate::specs::Answers::answer_fits))]
 pub fn fit(fields: &[u8], name: &[u8], form: &[u8]) -> bool
     ensures { result ≡ answer_fits fields.now name.now form.now }
 {

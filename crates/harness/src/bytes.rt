@@ -10,16 +10,9 @@ pub fn put(room: &mut [u8], digits: &[u8]) -> usize
         × (result ≡ min (length (pair_bytes digits.now)) (length room.old))
         × IsPrefixLen result room.new }
 {
-    let mut rest = digits;
-    let mut i = 0;
-    while rest.len() > 0 {
-        if room.len() <= i {
-            return i;
-        }
-        room[i] = text::hex_byte(rest, 0);
-        i += 1;
-        let next = text::from_column(rest, 2);
-        rest = next;
+    let count = digits.len().div_ceil(2).min(room.len());
+    for i in 0..count {
+        room[i] = text::hex_byte(digits, 2 * i);
     }
-    i
+    count
 }

@@ -2,32 +2,32 @@
 // differences of a case are seen. A write that fails is passed over.
 ghost use Rattle.std.specs.Prelude.{◌≡◌, false, ◌==◌};
 
+use std::fmt::Display;
+
 // A case that is not in its form.
 pub fn malformed(rt: &impl Print) -> bool
     ensures { result ≡ false }
 {
-    let _ = rt.write_all(b"malformed, ");
+    let _ = rt.print("malformed, ");
     false
 }
 
-pub fn agree(rt: &impl Print, what: &[u8], same: bool) -> bool
+pub fn agree(rt: &impl Print, what: &str, same: bool) -> bool
     ensures { result ≡ same }
 {
     if !same {
-        let _ = rt.write_all(what);
-        let _ = rt.write_all(b" differs, ");
+        let _ = print!(rt; "{what} differs, ");
     }
     same
 }
 
 // Shows both words.
-pub fn agree_word(rt: &impl Print, name: &[u8], left: u16, expected: u16) -> bool
+pub fn agree_word<N: Display + Drop>(rt: &impl Print, name: N, left: u16, expected: u16) -> bool
     ensures { result ≡ (left == expected) }
 {
     let same = left == expected;
     if !same {
-        let _ = rt.write_all(name);
-        let _ = print!(rt; " is {left:04x} and not {expected:04x}, ");
+        let _ = print!(rt; "{name} is {left:04x} and not {expected:04x}, ");
     }
     same
 }

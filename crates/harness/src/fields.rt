@@ -6,8 +6,10 @@
 //
 // Of a row:
 //
+//     kind(row)                     its first word
 //     is_kind(row, word)            whether its first word is this one
 //     body(row)                     what follows its first word and a blank: the name of a case, or the fields
+//     body_of(row, word)            the same, if its first word is this one
 //
 // Of the fields in a body:
 //
@@ -29,20 +31,27 @@
 //
 // The key `text` takes all that is left of its row, blanks included.
 ghost use Rattle.std.specs.Prelude.{◌≡◌, ◌-◌, ◌≤◌, length};
+ghost use Rattle.std.specs.Option.{option_map};
 ghost use Rattle.harness.specs.Text.{equal_text};
-ghost use Rattle.harness.specs.Fields.{kind_of_row, body_of_row, starts_with_key, first_field, after_first_field};
-ghost use Rattle.harness.specs.Fields.{from_key, has_key, first_value, value_of_key};
+ghost use Rattle.harness.specs.Fields.{kind_of_row, body_of_row, body_of_kind, starts_with_key, first_field, after_first_field, fields_of, fields_left};
+ghost use Rattle.harness.specs.Fields.{find_key, has_key, first_value, value_of_key};
 ghost use Rattle.harness.specs.Fields.{word_of_key, number_of_key, bit_of_key, letter_of_key, is_of_key};
 
 use crate::text;
 
 const BLANK: u8 = b' ';
 
-// Whether the row's first word is this one.
-pub fn is_kind(row: &[u8], kind: &[u8]) -> bool
-    ensures { result ≡ equal_text (kind_of_row row.now) kind.now }
+pub fn kind(row: &[u8]) -> &[u8]
+    ensures { result.now ≡ kind_of_row row.now }
 {
-    text::same(text::before(row, BLANK), kind)
+    text::before(row, BLANK)
+}
+
+// Whether the row's first word is this one.
+pub fn is_kind(row: &[u8], word: &[u8]) -> bool
+    ensures { result ≡ equal_text (kind_of_row row.now) word.now }
+{
+    kind(row) == word
 }
 
 pub fn body(row: &[u8]) -> &[u8]
@@ -51,12 +60,24 @@ pub fn body(row: &[u8]) -> &[u8]
     text::behind(row, BLANK)
 }
 
+// What follows the row's first word, if it is this one.
+pub fn body_of<'a>(row: &'a [u8], word: &[u8]) -> Option<&'a [u8]>
+    ensures { option_map (λ body. body.now) result ≡ body_of_kind row.now word.now }
+{
+    if is_kind(row, word) {
+        Some(body(row))
+    } else {
+        None
+    }
+}
+
 pub(crate) fn starts_with_key(row: &[u8], key: &[u8]) -> bool
     ensures { result ≡ starts_with_key row.now key.now }
 {
-    text::starts_with(row, key) & (text::byte_at(row, key.len()) == b'=')
+    row.starts_with(key) & (text::byte_at(row, key.len()) == b'=')
 }
 
+#[tactic(auto, unfolding(crate::specs::Fields::first_field))]
 pub(crate) fn first_field(row: &[u8]) -> &[u8]
     ensures { result.now ≡ first_field row.now }
 {
@@ -67,35 +88,61 @@ pub(crate) fn first_field(row: &[u8]) -> &[u8]
     }
 }
 
+#[tactic(auto, unfolding(crate::specs::Fields::after_first_field))]
 pub(crate) fn after_first_field(row: &[u8]) -> &[u8]
     ensures { (result.now ≡ after_first_field row.now) × (length result.now ≤ length row.now - 1) }
 {
     if starts_with_key(row, b"text") {
-        &row[row.len()..]
+        &[]
     } else {
         text::behind(row, BLANK)
     }
 }
 
-// The row from the first field with this key on.
-fn from_key<'a>(row: &'a [u8], key: &[u8]) -> &'a [u8]
-    ensures { result.now ≡ from_key row.now key.now }
-{
-    let mut rest = row;
-    while rest.len() > 0 {
-        if starts_with_key(rest, key) {
-            return rest;
-        }
-        let next = after_first_field(rest);
-        rest = next;
+// The row from each of its fields on.
+#[derive(Drop)]
+pub(crate) struct Fields<'a> {
+    rest: &'a [u8],
+}
+
+impl<'a> Fields<'a> {
+    pub(crate) fn of(row: &'a [u8]) -> Fields<'a>
+        ensures { fields_left result ≡ fields_of row.now }
+    {
+        Fields { rest: row }
     }
-    rest
+}
+
+impl<'a> Iterator for Fields<'a> {
+    ghost use Rattle.std.specs.Iterator.{YieldsFirstRef, item_count};
+
+    type Item = &'a [u8];
+
+    ghost next_gives = { YieldsFirstRef fields_left };
+
+    ghost remaining = { item_count fields_left };
+
+    fn next(&mut self) -> Option<&'a [u8]> {
+        let field = self.rest;
+        if field.is_empty() {
+            return None;
+        }
+        self.rest = after_first_field(field);
+        Some(field)
+    }
+}
+
+// The row from the first field with this key on.
+fn find<'a>(row: &'a [u8], key: &[u8]) -> Option<&'a [u8]>
+    ensures { option_map (λ field. field.now) result ≡ find_key row.now key.now }
+{
+    Fields::of(row).find(|field| starts_with_key(field, key))
 }
 
 pub fn has(fields: &[u8], key: &[u8]) -> bool
     ensures { result ≡ has_key fields.now key.now }
 {
-    from_key(fields, key).len() > 0
+    find(fields, key).is_some()
 }
 
 pub(crate) fn first_value(row: &[u8]) -> &[u8]
@@ -107,52 +154,50 @@ pub(crate) fn first_value(row: &[u8]) -> &[u8]
 pub fn value<'a>(fields: &'a [u8], key: &[u8]) -> &'a [u8]
     ensures { result.now ≡ value_of_key fields.now key.now }
 {
-    first_value(from_key(fields, key))
+    first_value(find(fields, key).unwrap_or_default())
 }
 
 pub fn is(fields: &[u8], key: &[u8], word: &[u8]) -> bool
     ensures { result ≡ is_of_key fields.now key.now word.now }
 {
-    has(fields, key) & text::same(value(fields, key), word)
+    has(fields, key) & (value(fields, key) == word)
 }
 
 pub fn word(fields: &[u8], key: &[u8], default: u16) -> u16
     ensures { result ≡ word_of_key fields.now key.now default }
 {
-    if has(fields, key) {
-        text::hex_word(value(fields, key), 0)
-    } else {
-        default
+    match find(fields, key) {
+        Some(field) => text::hex_word(first_value(field), 0),
+        None => default,
     }
 }
 
 pub fn number(fields: &[u8], key: &[u8], default: u64) -> u64
     ensures { result ≡ number_of_key fields.now key.now default }
 {
-    if has(fields, key) {
-        let digits = value(fields, key);
-        text::decimal(digits, 0, digits.len())
-    } else {
-        default
+    match find(fields, key) {
+        Some(field) => {
+            let digits = first_value(field);
+            text::decimal(digits, 0, digits.len())
+        }
+        None => default,
     }
 }
 
 pub fn bit(fields: &[u8], key: &[u8], default: bool) -> bool
     ensures { result ≡ bit_of_key fields.now key.now default }
 {
-    if has(fields, key) {
-        text::byte_at(value(fields, key), 0) == b'1'
-    } else {
-        default
+    match find(fields, key) {
+        Some(field) => text::byte_at(first_value(field), 0) == b'1',
+        None => default,
     }
 }
 
 pub fn letter(fields: &[u8], key: &[u8], byte: u8, default: bool) -> bool
     ensures { result ≡ letter_of_key fields.now key.now byte default }
 {
-    if has(fields, key) {
-        text::stands_in(byte, value(fields, key))
-    } else {
-        default
+    match find(fields, key) {
+        Some(field) => first_value(field).contains(&byte),
+        None => default,
     }
 }

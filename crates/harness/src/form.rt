@@ -17,6 +17,7 @@ ghost use Rattle.harness.specs.Forms.{is_word, fits_column, is_list, is_number, 
 ghost use Rattle.harness.specs.Forms.{is_range_kind, is_range, are_ranges, is_map_text};
 ghost use Rattle.harness.specs.Forms.{without_first, are_picked, are_letters, has_form, first_key, form_of_key, first_fits, fit_form};
 
+use crate::fields::Fields;
 use crate::{fields, text};
 
 // One range more than a board takes, so that a case can write a map that is refused.
@@ -33,26 +34,21 @@ pub fn is_word(value: &[u8]) -> bool
 fn is_list(value: &[u8]) -> bool
     ensures { result ≡ is_list value.now }
 {
-    if value.len() % 5 != 4 {
-        return false;
-    }
-    let mut i = 0;
-    while i < value.len() {
-        if !fits_column(value[i], i) {
-            return false;
-        }
-        i += 1;
-    }
-    true
+    (value.len() % 5 == 4)
+        & value
+            .iter()
+            .enumerate()
+            .all(|(column, byte)| fits_column(*byte, column))
 }
 
+#[tactic(auto, unfolding(crate::specs::Forms::fits_column))]
 fn fits_column(byte: u8, column: usize) -> bool
     ensures { result ≡ fits_column byte column }
 {
     if column % 5 == 4 {
         byte == b','
     } else {
-        text::stands_in(byte, b"0123456789ABCDEF")
+        b"0123456789ABCDEF".contains(&byte)
     }
 }
 
@@ -82,6 +78,7 @@ fn is_range_kind(value: &[u8]) -> bool
 }
 
 // A range of a map, as `0100-01FF:ram16`. Its first address may stand above its last: a case can write a map that is refused.
+#[tactic(auto, unfolding(crate::specs::Forms::is_range))]
 fn is_range(value: &[u8]) -> bool
     ensures { result ≡ is_range value.now }
 {
@@ -95,20 +92,7 @@ fn is_range(value: &[u8]) -> bool
 fn are_ranges(value: &[u8]) -> bool
     ensures { result ≡ are_ranges 17 value.now }
 {
-    let mut rest = value;
-    let mut i = 0;
-    while i < MOST_RANGES {
-        if !is_range(text::before(rest, b',')) {
-            return false;
-        }
-        if !text::stands_in(b',', rest) {
-            return true;
-        }
-        let next = text::behind(rest, b',');
-        rest = next;
-        i += 1;
-    }
-    false
+    (text::count(value, b',') < MOST_RANGES) & value.split(|byte| *byte == b',').all(is_range)
 }
 
 fn is_map(value: &[u8]) -> bool
@@ -121,11 +105,7 @@ fn is_map(value: &[u8]) -> bool
 fn without(value: &[u8], letter: u8) -> &[u8]
     ensures { result.now ≡ without_first value.now letter }
 {
-    if text::byte_at(value, 0) == letter {
-        text::from_column(value, 1)
-    } else {
-        value
-    }
+    value.strip_prefix(&[letter]).unwrap_or(value)
 }
 
 // Some of these letters, in their order.
@@ -133,34 +113,34 @@ fn are_picked(value: &[u8], letters: &[u8]) -> bool
     ensures { result ≡ are_picked letters.now value.now }
 {
     let mut rest = value;
-    let mut i = 0;
-    while i < letters.len() {
-        let next = without(rest, letters[i]);
-        rest = next;
-        i += 1;
+    for letter in letters {
+        rest = without(rest, *letter);
     }
-    rest.len() == 0
+    rest.is_empty()
 }
 
 fn are_letters(value: &[u8], letters: &[u8]) -> bool
     ensures { result ≡ are_letters value.now letters.now }
 {
-    text::same(value, b"-") | ((0 < value.len()) & are_picked(value, letters))
+    text::same(value, b"-") | (!value.is_empty() & are_picked(value, letters))
 }
 
 // Whether a value has a form, which is known by its first letter.
+#[tactic(auto, unfolding(crate::specs::Forms::has_form))]
 fn has_form(value: &[u8], form: &[u8]) -> bool
     ensures { result ≡ has_form value.now form.now }
 {
-    let letter = text::byte_at(form, 0);
-    ((letter == b'w') & is_word(value))
-        | ((letter == b'l') & is_list(value))
-        | ((letter == b'n') & is_number(value))
-        | ((letter == b'b') & is_bit(value))
-        | ((letter == b'h') & is_hex(value))
-        | ((letter == b'm') & is_map(value))
-        | (letter == b'a')
-        | ((b'A' <= letter) & (letter <= b'Z') & are_letters(value, form))
+    match text::byte_at(form, 0) {
+        b'w' => is_word(value),
+        b'l' => is_list(value),
+        b'n' => is_number(value),
+        b'b' => is_bit(value),
+        b'h' => is_hex(value),
+        b'm' => is_map(value),
+        b'a' => true,
+        b'A'..=b'Z' => are_letters(value, form),
+        _ => false,
+    }
 }
 
 pub(crate) fn first_key(row: &[u8]) -> &[u8]
@@ -170,6 +150,7 @@ pub(crate) fn first_key(row: &[u8]) -> &[u8]
 }
 
 // The form that a row of forms gives the values of a key: nothing, where the key is unknown.
+#[tactic(auto, unfolding(crate::specs::Forms::form_of_key))]
 fn form_of<'a>(form: &'a [u8], key: &[u8]) -> &'a [u8]
     ensures { result.now ≡ form_of_key form.now key.now }
 {
@@ -182,10 +163,11 @@ fn form_of<'a>(form: &'a [u8], key: &[u8]) -> &'a [u8]
 
 // Whether the row's first field is one of the form's, and no later one has its key. Two blanks make an empty field, which says
 // nothing.
+#[tactic(auto, unfolding(crate::specs::Forms::first_fits))]
 fn first_fits(row: &[u8], form: &[u8]) -> bool
     ensures { result ≡ first_fits row.now form.now }
 {
-    if fields::first_field(row).len() == 0 {
+    if fields::first_field(row).is_empty() {
         return true;
     }
     let key = first_key(row);
@@ -197,13 +179,5 @@ fn first_fits(row: &[u8], form: &[u8]) -> bool
 pub fn fit(fields: &[u8], form: &[u8]) -> bool
     ensures { result ≡ fit_form fields.now form.now }
 {
-    let mut rest = fields;
-    while rest.len() > 0 {
-        if !first_fits(rest, form) {
-            return false;
-        }
-        let next = fields::after_first_field(rest);
-        rest = next;
-    }
-    true
+    Fields::of(fields).all(|field| first_fits(field, form))
 }

@@ -5,9 +5,9 @@
 pub mod answer;
 pub mod bytes;
 pub mod case;
+pub mod cases;
 pub mod fields;
 pub mod form;
-pub mod input;
 pub mod machine;
 pub mod map;
 pub mod tally;

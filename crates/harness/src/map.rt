@@ -8,13 +8,13 @@ use memory::map::{Board, Kind, Range};
 
 const BOARD_RANGES: usize = 16;
 
+#[tactic(auto, unfolding(crate::specs::Maps::kind_written))]
 fn kind_in(value: &[u8]) -> Kind
     ensures { result ≡ kind_written value.now }
 {
     if text::same(value, b"rom") {
-        return Kind::Rom;
-    }
-    if text::same(value, b"ram8") {
+        Kind::Rom
+    } else if text::same(value, b"ram8") {
         Kind::Ram8
     } else {
         Kind::Ram16
@@ -22,6 +22,7 @@ fn kind_in(value: &[u8]) -> Kind
 }
 
 // The range that `0100-01FF:ram16` writes.
+#[tactic(auto, unfolding(crate::specs::Maps::range_written))]
 fn range_in(value: &[u8]) -> Range
     ensures { result ≡ range_written value.now }
 {
@@ -30,7 +31,7 @@ fn range_in(value: &[u8]) -> Range
     Range {
         first: text::hex_word(value, 0),
         last: text::hex_word(behind, 0),
-        kind: kind,
+        kind,
     }
 }
 
@@ -41,12 +42,9 @@ fn ranges_in(list: &[u8]) -> [Range; 16]
 {
     let mut ranges = [memory::near::no_range(); BOARD_RANGES];
     let mut rest = list;
-    let mut i = 0;
-    while i < BOARD_RANGES {
+    for i in 0..BOARD_RANGES {
         ranges[i] = range_in(text::before(rest, b','));
-        let next = text::behind(rest, b',');
-        rest = next;
-        i += 1;
+        rest = text::behind(rest, b',');
     }
     ranges
 }
@@ -55,19 +53,10 @@ fn ranges_in(list: &[u8]) -> [Range; 16]
 fn count_in(list: &[u8]) -> usize
     ensures { result ≡ count_written 17 list.now }
 {
-    let mut rest = list;
-    let mut i = 0;
-    while i < BOARD_RANGES + 1 {
-        i += 1;
-        if !text::stands_in(b',', rest) {
-            return i;
-        }
-        let next = text::behind(rest, b',');
-        rest = next;
-    }
-    i
+    (text::count(list, b',') + 1).min(BOARD_RANGES + 1)
 }
 
+#[tactic(auto, unfolding(crate::specs::Maps::board_written))]
 fn board_in(value: &[u8]) -> Board
     ensures { result ≡ board_written value.now }
 {

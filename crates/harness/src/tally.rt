@@ -1,6 +1,8 @@
-// The count of cases. The line of a case is its name, perhaps what differs, and `ok` or `FAILED`.
+// The count of cases. The line of a case is its name, perhaps what differs, and `ok` or `FAILED`. A write that fails is passed over.
 ghost use Rattle.std.specs.Prelude.{◌≡◌};
 ghost use Rattle.harness.specs.Tally.{no_cases, counted_of, all_well};
+
+use std::fmt;
 
 #[derive(Clone, Copy)]
 pub struct Tally {
@@ -8,58 +10,71 @@ pub struct Tally {
     pub failed: u64,
 }
 
+impl Tally {
+    pub fn new() -> Tally
+        ensures { result ≡ no_cases }
+    {
+        Tally {
+            cases: 0,
+            failed: 0,
+        }
+    }
+
+    // Counts a case, without a line.
+    #[tactic(auto, unfolding(crate::specs::Tally::counted_of))]
+    pub fn count(&mut self, well: bool)
+        ensures { self.new ≡ counted_of self.old well }
+    {
+        self.cases = self.cases.wrapping_add(1);
+        if !well {
+            self.failed = self.failed.wrapping_add(1);
+        }
+    }
+
+    // Prints the end of a case's line, and counts the case.
+    pub fn close(&mut self, rt: &impl Print, well: bool)
+        ensures { self.new ≡ counted_of self.old well }
+    {
+        let _ = rt.println(if well { "ok" } else { "FAILED" });
+        self.count(well)
+    }
+
+    // Whether no case failed.
+    pub fn is_well(&self) -> bool
+        ensures { result ≡ all_well self.now }
+    {
+        self.failed == 0
+    }
+}
+
+impl fmt::Display for Tally {
+    fn fmt<W: fmt::Write>(&self, f: &mut fmt::Formatter<W>) -> fmt::Result {
+        let cases = self.cases;
+        let failed = self.failed;
+        write!(f, "{cases} cases, {failed} failed")
+    }
+}
+
+// TODO until the last callers write the methods
 pub fn empty() -> Tally
     ensures { result ≡ no_cases }
 {
-    Tally {
-        cases: 0,
-        failed: 0,
-    }
+    Tally::new()
 }
 
-// Counts a case, without a line.
-pub fn counted(tally: Tally, well: bool) -> Tally
-    ensures { result ≡ counted_of tally well }
-{
-    let cases = std::num::wrapping_add_u64(tally.cases, 1);
-    let failed = tally.failed;
-    if well {
-        Tally { cases, failed }
-    } else {
-        Tally {
-            cases,
-            failed: std::num::wrapping_add_u64(failed, 1),
-        }
-    }
-}
-
-// Prints the end of a case's line, and counts the case. A write that fails, here and below, is passed over.
-pub fn close(rt: &impl Print, tally: Tally, well: bool) -> Tally
-    ensures { result ≡ counted_of tally well }
-{
-    if well {
-        let _ = rt.write_all(b"ok\n");
-    } else {
-        let _ = rt.write_all(b"FAILED\n");
-    }
-    counted(tally, well)
-}
-
-// Prints the whole line of a case, and counts the case.
 pub fn judge(rt: &impl Print, tally: Tally, name: &[u8], well: bool) -> Tally
     ensures { result ≡ counted_of tally well }
 {
     let _ = rt.write_all(name);
     let _ = rt.write_all(b": ");
-    close(rt, tally, well)
+    let mut next = tally;
+    next.close(rt, well);
+    next
 }
 
-// Prints the counts, and answers whether no case failed.
 pub fn summary(rt: &impl Print, tally: Tally) -> bool
     ensures { result ≡ all_well tally }
 {
-    let cases = tally.cases;
-    let failed = tally.failed;
-    let _ = println!(rt; "{cases} cases, {failed} failed");
-    failed == 0
+    let _ = rt.println(tally);
+    tally.is_well()
 }

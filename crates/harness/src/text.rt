@@ -1,6 +1,6 @@
-// Text: what stands before and behind a mark, the rows of an input, bytes compared, and the numbers that digits write.
-ghost use Rattle.std.specs.Prelude.{◌≡◌, ◌-◌, ◌<◌, ◌≤◌, length, drop, slice_index};
-ghost use Rattle.harness.specs.Text.{length_before, part_before, part_behind, first_row, after_first_row, is_remark};
+// Text: what stands before and behind a mark, the rows of an input, and the numbers that digits write.
+ghost use Rattle.std.specs.Prelude.{◌≡◌, ◌-◌, ◌<◌, ◌≤◌, [], length, drop, slice_index, slice_index_or};
+ghost use Rattle.harness.specs.Text.{length_before, count_of, part_before, part_behind, first_row, after_first_row, rows_of, rows_left, is_remark};
 ghost use Rattle.harness.specs.Text.{starts_with, equal_text, stands_in, all_stand_in, digit_value, hex_number, decimal_number};
 
 const LINE_FEED: u8 = 10;
@@ -12,34 +12,32 @@ const LAST_DIGITS: u64 = 100000000000000000;
 fn length_before(text: &[u8], mark: u8) -> usize
     ensures { (result ≡ length_before mark text.now) × (result ≤ length text.now) }
 {
-    let mut i = 0;
-    while i < text.len() {
-        if text[i] == mark {
-            return i;
-        }
-        i += 1;
-    }
-    i
+    text.iter()
+        .position(|byte| *byte == mark)
+        .unwrap_or(text.len())
+}
+
+// How many times the mark stands in a text.
+pub(crate) fn count(text: &[u8], mark: u8) -> usize
+    ensures { result ≡ count_of mark text.now }
+{
+    text.iter().filter(|byte| **byte == mark).count()
 }
 
 // What stands before the first mark: all, where there is none.
+#[tactic(auto, unfolding(crate::specs::Text::part_before))]
 pub fn before(text: &[u8], mark: u8) -> &[u8]
     ensures { result.now ≡ part_before mark text.now }
 {
-    let end = length_before(text, mark);
-    &text[0..end]
+    &text[..length_before(text, mark)]
 }
 
 // What stands behind the first mark: it is shorter, so that a program which goes from part to part ends.
+#[tactic(auto, unfolding(crate::specs::Text::part_behind))]
 pub fn behind(text: &[u8], mark: u8) -> &[u8]
     ensures { (result.now ≡ part_behind mark text.now) × (length result.now ≤ length text.now - 1) }
 {
-    let end = length_before(text, mark);
-    if end < text.len() {
-        &text[end + 1..]
-    } else {
-        &text[end..]
-    }
+    from_column(text, length_before(text, mark) + 1)
 }
 
 pub fn first_row(input: &[u8]) -> &[u8]
@@ -54,77 +52,90 @@ pub fn after_first_row(input: &[u8]) -> &[u8]
     behind(input, LINE_FEED)
 }
 
+// The rows of an input, one after another.
+#[derive(Drop)]
+pub struct Rows<'a> {
+    rest: &'a [u8],
+}
+
+impl<'a> Rows<'a> {
+    pub fn of(input: &'a [u8]) -> Rows<'a>
+        ensures { rows_left result ≡ rows_of input.now }
+    {
+        Rows { rest: input }
+    }
+
+    // The next row, or an empty one where the input has ended.
+    pub(crate) fn next_or_empty(&mut self) -> &'a [u8]
+        ensures first { result.now ≡ slice_index_or (rows_left self.old) 0 [] }
+        ensures others { rows_left self.new ≡ drop 1 (rows_left self.old) }
+    {
+        self.next().unwrap_or_default()
+    }
+}
+
+impl<'a> Iterator for Rows<'a> {
+    ghost use Rattle.std.specs.Iterator.{YieldsFirstRef, item_count};
+
+    type Item = &'a [u8];
+
+    ghost next_gives = { YieldsFirstRef rows_left };
+
+    ghost remaining = { item_count rows_left };
+
+    fn next(&mut self) -> Option<&'a [u8]> {
+        let rest = self.rest;
+        if rest.is_empty() {
+            return None;
+        }
+        self.rest = after_first_row(rest);
+        Some(first_row(rest))
+    }
+}
+
 pub fn starts_with(text: &[u8], start: &[u8]) -> bool
     ensures { result ≡ starts_with text.now start.now }
 {
-    if text.len() < start.len() {
-        return false;
-    }
-    let mut i = 0;
-    while i < start.len() {
-        if text[i] != start[i] {
-            return false;
-        }
-        i += 1;
-    }
-    true
+    text.starts_with(start)
 }
 
 pub fn same(a: &[u8], b: &[u8]) -> bool
     ensures { result ≡ equal_text a.now b.now }
 {
-    (a.len() == b.len()) & starts_with(a, b)
+    a == b
 }
 
 pub fn stands_in(byte: u8, set: &[u8]) -> bool
     ensures { result ≡ stands_in byte set.now }
 {
-    let mut i = 0;
-    while i < set.len() {
-        if set[i] == byte {
-            return true;
-        }
-        i += 1;
-    }
-    false
+    set.contains(&byte)
 }
 
 // Whether each byte of the text stands in the set.
 pub fn all_stand_in(text: &[u8], set: &[u8]) -> bool
     ensures { result ≡ all_stand_in text.now set.now }
 {
-    let mut i = 0;
-    while i < text.len() {
-        if !stands_in(text[i], set) {
-            return false;
-        }
-        i += 1;
-    }
-    true
+    text.iter().all(|byte| set.contains(byte))
 }
 
 // What stands from a column on: nothing, where the row ends before it.
 pub fn from_column(row: &[u8], column: usize) -> &[u8]
     ensures { (result.now ≡ drop column row.now) × (length result.now ≡ length row.now - column) }
 {
-    if column <= row.len() {
-        &row[column..]
-    } else {
-        &row[row.len()..]
-    }
+    row.get(column..).unwrap_or_default()
 }
 
 // The byte at a column, and 0 past the row's end.
 pub fn byte_at(row: &[u8], column: usize) -> u8
     ensures { result ≡ slice_index row.now column }
 {
-    if column < row.len() { row[column] } else { 0 }
+    row.get(column).copied().unwrap_or(0)
 }
 
 pub fn is_remark(row: &[u8]) -> bool
     ensures { result ≡ is_remark row.now }
 {
-    (row.len() == 0) | (byte_at(row, 0) == b'#')
+    row.is_empty() | (byte_at(row, 0) == b'#')
 }
 
 fn digit_at(row: &[u8], column: usize) -> u16
@@ -158,10 +169,8 @@ pub fn decimal(row: &[u8], column: usize, count: usize) -> u64
 {
     let digits = from_column(row, column);
     let mut number = 0;
-    let mut i = 0;
-    while i < count {
+    for i in 0..count {
         number = number % LAST_DIGITS * 10 + digit_at(digits, i) as u64;
-        i += 1;
     }
     number
 }

@@ -3,32 +3,21 @@ ghost use Rattle.std.specs.Prelude.{◌≡◌, ◌*◌, true, length, drop, repl
 ghost use Rattle.harness.specs.Text.{hex_number};
 ghost use Rattle.harness.specs.Words.{words_in_list, tells_words, with_list_at, with_first, with_words, is_inside, are_inside};
 
+use crate::fields::Fields;
 use crate::{fields, form, text};
 
 // Puts one word at every place.
 pub fn fill(run: &mut [u16], word: u16)
     ensures { run.new ≡ replicate (length run.old) word }
 {
-    let mut i = 0;
-    while i < run.len() {
-        run[i] = word;
-        i += 1;
-    }
+    run.fill(word)
 }
 
 // Whether both runs have the same words.
 pub fn same(a: &[u16], b: &[u16]) -> bool
     ensures { (result ≡ true → a.now ≡ b.now) × (a.now ≡ b.now → result ≡ true) }
 {
-    if a.len() != b.len() {
-        return false;
-    }
-    for i in 0..a.len() {
-        if a[i] != b[i] {
-            return false;
-        }
-    }
-    true
+    a == b
 }
 
 pub fn list_length(list: &[u8]) -> usize
@@ -63,15 +52,13 @@ fn put_at(memory: &mut [u16], at: usize, word: u16)
 pub fn put_list(memory: &mut [u16], address: u16, list: &[u8])
     ensures { memory.new ≡ with_list_at address list.now memory.old }
 {
-    let count = list_length(list);
-    let mut i = 0;
-    while i < count {
+    for i in 0..list_length(list) {
         put_at(memory, address as usize + i, text::hex_word(list, i * 5));
-        i += 1;
     }
 }
 
 // .. of the row's first field, if it tells words.
+#[tactic(auto, unfolding(crate::specs::Words::with_first))]
 fn put_first(memory: &mut [u16], row: &[u8])
     ensures { memory.new ≡ with_first row.now memory.old }
 {
@@ -83,34 +70,21 @@ fn put_first(memory: &mut [u16], row: &[u8])
 pub fn put(memory: &mut [u16], fields: &[u8])
     ensures { memory.new ≡ with_words fields.now memory.old }
 {
-    let mut rest = fields;
-    while rest.len() > 0 {
-        put_first(memory, rest);
-        let next = fields::after_first_field(rest);
-        rest = next;
+    for field in Fields::of(fields) {
+        put_first(memory, field);
     }
 }
 
+#[tactic(auto, unfolding(crate::specs::Words::is_inside))]
 fn is_inside(row: &[u8], size: usize) -> bool
     ensures { result ≡ is_inside row.now size }
 {
-    if tells_words(row) {
-        text::hex_word(row, 0) as usize + list_length(fields::first_value(row)) <= size
-    } else {
-        true
-    }
+    !tells_words(row)
+        | (text::hex_word(row, 0) as usize + list_length(fields::first_value(row)) <= size)
 }
 
 pub fn are_inside(fields: &[u8], size: usize) -> bool
     ensures { result ≡ are_inside fields.now size }
 {
-    let mut rest = fields;
-    while rest.len() > 0 {
-        if !is_inside(rest, size) {
-            return false;
-        }
-        let next = fields::after_first_field(rest);
-        rest = next;
-    }
-    true
+    Fields::of(fields).all(|field| is_inside(field, size))
 }

@@ -12,7 +12,7 @@ use Rattle.refusal.specs.declared.Refusal.TheVariants.{RoomTooSmall}
 use Rattle.refusal.proofs.ReportLaws.{no_answer, same_answer, same-refusal}
 use Rattle.word.specs.Word.{wrap_add}
 use Rattle.word.proofs.Choice.{cond-true, cond-false}
-use Rattle.image.specs.declared.WriteAnswer.TheVariants.{Refused, Written}
+use Rattle.std.proofs.Common.{Ok, Err}
 use Rattle.bigendian.specs.Numbers.{bytes_of, total, fitting, put_words}
 use Rattle.bigendian.proofs.NumberLaws.{bytes-length, put-fits}
 use Rattle.bigendian.proofs.PutLaws.{put-length, put-behind, put_whole, part-put}
@@ -30,10 +30,10 @@ use Rattle.image.proofs.LoadLaws.{one_number}
 use Rattle.image.proofs.PassLaws.{mod-left, mod-right}
 
 pub write-answers-apart : WriteAnswersApart
-write-answers-apart (Refused a) (Refused b) e = ap Refused (same-refusal a b e)
-write-answers-apart (Refused a) (Written b) e = no_answer e
-write-answers-apart (Written a) (Refused b) e = no_answer (sym e)
-write-answers-apart (Written a) (Written b) e = ap Written (same_answer e)
+write-answers-apart (Err a) (Err b) e = ap Err (same-refusal a b e)
+write-answers-apart (Err a) (Ok b) e = no_answer e
+write-answers-apart (Ok a) (Err b) e = no_answer (sym e)
+write-answers-apart (Ok a) (Ok b) e = ap Ok (same_answer e)
 
 -- numbers put behind those that were put
 laid_more : (d : List ℕ) (at : ℕ) (xs ys : List ℕ) {d1 d2 : List ℕ} {next : ℕ} → d1 ≡ put_words d at xs → next ≡ at + length xs * 2 → d2 ≡ put_words d1 next ys
@@ -256,7 +256,7 @@ module _ (board first : ℕ) (region : List ℕ) where
           let tail = laid_more d3 (b - tail_bytes) (ok_mark ∷ []) (s ∷ []) e4 refl e5 in
           laid_more d 0 (head_words (id_head board)) (ws ++ tail_words s) head refl (laid_more d2 head_bytes ws (tail_words s) e3.room f tail)
 
-      pub room-written : b ≤ length d → wrote (Written b) d5 ≡ writing d file
+      pub room-written : b ≤ length d → wrote (Ok b) d5 ≡ writing d file
       unfolding writing image_of
       room-written h =
           let l : length file ≡ b = image-length ∙ sym e in

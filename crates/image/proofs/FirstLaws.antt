@@ -10,8 +10,7 @@ use Rattle.refusal.specs.declared.Refusal.TheVariants.{MemoryTooLong, WrongBoard
 use Rattle.refusal.specs.Report.{answered}
 use Rattle.refusal.proofs.ReportLaws.{no_answer}
 use Rattle.memory.specs.Memory.{too_long}
-use Rattle.records.specs.declared.LoadAnswer.{LoadAnswer}
-use Rattle.records.specs.declared.LoadAnswer.TheVariants.{Loaded}
+use Rattle.std.proofs.Common.{Result, Ok}
 use Rattle.records.specs.Records.{Record}
 use Rattle.records.specs.Loading.{load_reported, Loading, refuse_load, loaded}
 use Rattle.image.specs.Format.{record_limit, head_bytes, record_bytes, body_bytes, record_at, id_head, head_sum}
@@ -48,10 +47,10 @@ module _ (limit board : ℕ) (m file : List ℕ) where
   unfolding load_with
   load-shows = cond_both (Shows limit m file) (too_long m) (refused-shows MemoryTooLong) (head-shows (head_of file) refl)
 
-pub loaded-whole : (board : ℕ) (m file : List ℕ) {after : List ℕ} {r : LoadAnswer} {n : ℕ} → loaded r after ≡ load_of board m file → r ≡ Loaded n
+pub loaded-whole : (board : ℕ) (m file : List ℕ) {after : List ℕ} {r : Result ℕ Refusal} {n : ℕ} → loaded r after ≡ load_of board m file → r ≡ Ok n
     → WholeFile record_limit (length m) file
 loaded-whole board m file {after} {r} {n} e f =
-    load-shows record_limit board m file n (ap (λ (l : Loading). l.answer) (sym e) ∙ ap (λ (x : LoadAnswer). load_reported x) f)
+    load-shows record_limit board m file n (ap (λ (l : Loading). l.answer) (sym e) ∙ ap (λ (x : Result ℕ Refusal). load_reported x) f)
 
 -- what is left behind the first of these records
 pub record Behind (limit len : ℕ) (bytes : List ℕ) (a c : ℕ) (left : List Record) (stated : ℕ) : Type 0 where
@@ -65,7 +64,7 @@ with-split : (r : Record) (b : Body) (left : List Record) (stated : ℕ) → wit
 with-split r (whole rs s) left stated e = (rs, (cc, cc))
 with-split r (broken q) left stated e = let z : ◌≡◌ {A = ℕ} 0 1 = cc in absurd (omega arith)
 
-first_part : (a c : ℕ) (p : Part) → record_first a c ≡ first_of p → p ≡ record_part a c
+pub first_part : (a c : ℕ) (p : Part) → record_first a c ≡ first_of p → p ≡ record_part a c
 first_part a c (record_part b d) e = cc
 first_part a c (tail_part s) e = let z : ◌≡◌ {A = ℕ} 0 1 = cc in absurd (omega arith)
 first_part a c (offence_part r) e = let z : ◌≡◌ {A = ℕ} 0 1 = cc in absurd (omega arith)

@@ -9,7 +9,7 @@ use lib.ListN.{length, replicate, length-replicate}
 use borrow.Author.Tests.{le-ltb}
 use Rattle.word.proofs.Choice.{cond-true, cond-false}
 use Rattle.refusal.specs.Report.{refused, answered}
-use Rattle.memory.specs.declared.Admission.TheVariants.{Admitted}
+use Rattle.std.proofs.Common.{Ok}
 use Rattle.bigendian.specs.Numbers.{word_at}
 use Rattle.records.specs.Records.{is_within, overwrite}
 use Rattle.records.specs.Loading.{laying}
@@ -44,7 +44,7 @@ worked-counts =
 abbrev file_at : ℕ → List ℕ
 file_at cut = region_image (id_head 2) cut long_region 0 1024
 
-admitted : region_admission long_region 0 1024 ≡ Admitted
+admitted : region_admission long_region 0 1024 ≡ Ok (tt {0})
 unfolding region_admission
 admitted = refl
 

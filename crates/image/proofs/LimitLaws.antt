@@ -12,7 +12,8 @@ use lib.Seq.{take-append_seam}
 use borrow.Author.Tests.{eqb-true, le-ltb, lt-ltb, ltb-false}
 use Rattle.refusal.specs.declared.Refusal.TheVariants.{MalformedImage, MemoryTooLong, WrongBoard, PastMemory}
 use Rattle.refusal.specs.Report.{answered}
-use Rattle.memory.specs.declared.Admission.{Admission}
+use Rattle.std.proofs.Common.{Result}
+use Rattle.refusal.specs.declared.Refusal.{Refusal}
 use Rattle.memory.specs.Bus.{unless_barred}
 use Rattle.memory.specs.Memory.{too_long}
 use Rattle.word.proofs.Choice.{cond-true, cond-false}
@@ -40,7 +41,7 @@ unfolding write_with writing overwrite
 every-region-is-written head cut m first last h =
     let file = region_image head cut m first last in
     let w : write_with head cut m first last file ≡ record { answer = answered (length file); room = overwrite file 0 file } =
-    ap (λ (a : Admission). unless_barred a (refuse_write file) (writing file file)) h ∙ cond-false _ _ (le-ltb (length file) (length file) (omega arith)) in
+    ap (λ (a : Result (Unit {0}) Refusal). unless_barred a (refuse_write file) (writing file file)) h ∙ cond-false _ _ (le-ltb (length file) (length file) (omega arith)) in
     record {
       room = file;
       answer = ap (λ (x : Writing). x.answer) w;

@@ -11,49 +11,44 @@ use Rattle.refusal.specs.declared.Refusal.TheVariants.{MemoryTooLong, WrongBoard
 use Rattle.refusal.specs.Report.{answered}
 use Rattle.memory.specs.Memory.{too_long}
 use Rattle.word.specs.Word.{wrap_add}
-use Rattle.records.specs.declared.LoadAnswer.TheVariants.{Refused, Loaded}
+use Rattle.std.proofs.Common.{Ok, Err}
 use Rattle.records.specs.Loading.{Loading, refuse_load, loaded}
-use Rattle.image.specs.declared.parse.Head.{Head}
-use Rattle.image.specs.declared.check.Checked.TheVariants.{Whole, Broken}
+use Rattle.image.specs.declared.check.Checked.{Checked}
 use Rattle.image.specs.Format.{record_limit, head_bytes, body_bytes, records_sum, checksum, id_head, head_sum}
 use Rattle.image.specs.Read.{Opening, opened, head_of, Body, whole, broken, body_of}
 use Rattle.image.specs.Load.{is_for, sum_tested, board_tested, load_with, load_of}
-use Rattle.image.specs.Inner.Pass.{head_read, summary, is_whole, placed_body}
+use Rattle.image.specs.Inner.Pass.{summary, is_whole, placed_body}
 use Rattle.image.proofs.PassLaws.{mod-right}
 use Rattle.word.proofs.Choice.{cond-true, cond-false}
 use Rattle.word.proofs.SetsLaws.{rest}
 
 -- the sum test, as the code makes it and as the definition has it
-tested : (m : List ℕ) (head n s stated : ℕ) (b : Body) (t : Bool) → Whole n s stated ≡ summary 0 0 b → eqb (wrap_add head s) stated ≡ t
-    → sum_tested m head b ≡ cond t (record { answer = answered n; memory = placed_body m b }) (refuse_load m SumDiffers)
+tested : (m : List ℕ) (head : ℕ) (k : Checked) (b : Body) (t : Bool) → Ok k ≡ summary 0 0 b → eqb (wrap_add head k.sum) k.stated ≡ t
+    → sum_tested m head b ≡ cond t (record { answer = answered k.records; memory = placed_body m b }) (refuse_load m SumDiffers)
 unfolding wrap_add checksum
-tested m head n s stated (whole rs st) t e h =
-    let eo : n ≡ 0 + length rs = cc in
-    let en : n ≡ length rs = omega arith in
-    let es : s ≡ (0 + records_sum rs) % 65536 = cc in
-    let et : stated ≡ st = cc in
+tested m head k (whole rs st) t e h =
+    let ek : k ≡ record { records = 0 + length rs; sum = (0 + records_sum rs) % 65536; stated = st } = cc in
+    let en : k.records ≡ length rs = ap (λ (x : Checked). x.records) ek ∙ omega arith in
+    let es : k.sum ≡ (0 + records_sum rs) % 65536 = ap (λ (x : Checked). x.sum) ek in
+    let et : k.stated ≡ st = ap (λ (x : Checked). x.stated) ek in
     let z : 0 + records_sum rs ≡ records_sum rs = omega arith in
     rw (← et, ← en, ← h, es, z, mod-right head (records_sum rs))
-tested m head n s stated (broken r) t e h = let z : ◌≡◌ {A = ℕ} 0 1 = cc in absurd (omega arith)
+tested m head k (broken r) t e h = let z : ◌≡◌ {A = ℕ} 0 1 = cc in absurd (omega arith)
 
-module _ (m : List ℕ) (head : ℕ) (b : Body) {n s stated : ℕ} (e : Whole n s stated ≡ summary 0 0 b) where
-  pub whole-accepted : {m' : List ℕ} → eqb (wrap_add head s) stated ≡ true → m' ≡ placed_body m b → loaded (Loaded n) m' ≡ sum_tested m head b
-  whole-accepted h g = rw g (sym (tested m head n s stated b true e h))
+module _ (m : List ℕ) (head : ℕ) (b : Body) {k : Checked} (e : Ok k ≡ summary 0 0 b) where
+  pub whole-accepted : {m' : List ℕ} → eqb (wrap_add head k.sum) k.stated ≡ true → m' ≡ placed_body m b → loaded (Ok k.records) m' ≡ sum_tested m head b
+  whole-accepted h g = rw g (sym (tested m head k b true e h))
 
-  pub whole-refused : eqb (wrap_add head s) stated ≡ false → loaded (Refused SumDiffers) m ≡ sum_tested m head b
-  whole-refused h = sym (tested m head n s stated b false e h)
+  pub whole-refused : eqb (wrap_add head k.sum) k.stated ≡ false → loaded (Err SumDiffers) m ≡ sum_tested m head b
+  whole-refused h = sym (tested m head k b false e h)
 
-pub whole-known : (b : Body) {n s stated : ℕ} → Whole n s stated ≡ summary 0 0 b → is_whole b ≡ true
+pub whole-known : (b : Body) {k : Checked} → Ok k ≡ summary 0 0 b → is_whole b ≡ true
 whole-known (whole rs st) e = refl
 whole-known (broken r) e = let z : ◌≡◌ {A = ℕ} 0 1 = cc in absurd (omega arith)
 
-pub broken-refused : (m : List ℕ) (head : ℕ) (r : Refusal) (b : Body) → Broken r ≡ summary 0 0 b → loaded (Refused r) m ≡ sum_tested m head b
+pub broken-refused : (m : List ℕ) (head : ℕ) (r : Refusal) (b : Body) → Err r ≡ summary 0 0 b → loaded (Err r) m ≡ sum_tested m head b
 broken-refused m head r (whole rs st) e = let z : ◌≡◌ {A = ℕ} 0 1 = cc in absurd (omega arith)
 broken-refused m head r (broken q) e = let f : r ≡ q = cc in rw f
-
--- The head, as the code has read it.
-pub head-is : (file : List ℕ) {h k : Head} → head_read h ≡ head_of file → h ≡ k → head_of file ≡ head_read k
-head-is file e f = sym e ∙ ap head_read f
 
 -- the code's test of the one board is the test of a list of one
 pub one-board : (named board : ℕ) → eqb named board ≡ is_for (id_head named) board
@@ -78,7 +73,7 @@ module _ (opening : List ℕ → Opening) (limit board : ℕ) (m file : List ℕ
 
 -- .. with an `ID` head: the code reads it from the file, and the rest from a slice of it
 module _ (board : ℕ) (m file : List ℕ) {named : ℕ} (t : too_long m ≡ false) (e : head_of file ≡ opened (id_head named)) where
-  pub load-other : is_for (id_head named) board ≡ false → loaded (Refused WrongBoard) m ≡ load_of board m file
+  pub load-other : is_for (id_head named) board ≡ false → loaded (Err WrongBoard) m ≡ load_of board m file
   load-other h = sym (load-head head_of record_limit board m file t e ∙ cond-false _ _ h)
 
   pub load_here : {l : Loading} → is_for (id_head named) board ≡ true

@@ -1,26 +1,26 @@
 -- The loops' invariants, and what each turn of a loop does to them.
 use Prim.Native.Nat.{ℕ, suc, ◌+◌, ◌-◌, ◌*◌, ◌%◌, ◌<◌, ◌≤◌}
 use mathlib.Core.Path.{◌≡◌, refl, sym, ap, ◌∙◌}
-use mathlib.Core.Bool.{true, false}
+use mathlib.Core.Bool.{true}
+use Rattle.std.proofs.Common.{Ok, Err}
 use mathlib.Core.List.{List}
 use native.Mathlib.Omega.{arith}
 use lib.Dec.{lit<}
 use lib.ListN.{length, take, drop, length-take, length-drop}
 use lib.Seq.{length-take-le, take-add, drop_at, drop-drop, sets}
 use Rattle.refusal.specs.declared.Refusal.{Refusal}
-use Rattle.image.specs.declared.check.Checked.TheVariants.{Whole, Broken}
 use Rattle.word.specs.Word.{wrap_add}
 use Rattle.word.proofs.WordLaws.{add_low}
-use Rattle.word.proofs.SetsLaws.{rest}
 use Rattle.bigendian.specs.Numbers.{word_at, words_of, all_words, total}
 use Rattle.bigendian.proofs.NumberLaws.{word-drop, words-length, words-front}
 use Rattle.records.specs.Records.{Record, overwrite}
 use Rattle.records.proofs.OverLaws.{overwrite-sets, overwrite-length}
 use Rattle.image.specs.Format.{address_at, count_at, record_head_bytes, record_bytes, record_at, record_sum, records_sum}
 use Rattle.image.specs.Read.{Part, record_part, tail_part, offence_part, part_of, Body, whole, broken, with_record, follow}
-use Rattle.image.specs.Read.{body_of}
+use Rattle.image.specs.Read.{body_of, record_first, none_first, first_of}
 use Rattle.image.specs.Inner.Pass.{summary, is_whole, placed_body}
 use Rattle.image.proofs.ReadLaws.{Sound, part_sound, body-law}
+use Rattle.image.proofs.FirstLaws.{first_part}
 
 -- a sum modulo 65,536 may be taken modulo 65,536 on the way
 pub mod-left : (x y : ℕ) → (x % 65536 + y) % 65536 ≡ (x + y) % 65536
@@ -68,75 +68,53 @@ summary-on n sum next r (whole rs stated) h =
     rw (e, f)
 summary-on n sum next r (broken e) h = refl
 
--- A pass that has come to byte at of a body, which is read with this limit for a memory of len words.
-pub record Reading (limit len : ℕ) (body : List ℕ) (at : ℕ) : Type 0 where
-  pub within : at ≤ length body
-
--- The first pass: the records before byte at are counted and summed.
-pub record Checking (limit len : ℕ) (body : List ℕ) (at n sum : ℕ) : Type 0 where
-  pub here : Reading limit len body at
-  pub few : n ≤ at
+-- The first pass: the records before those that are left of a body are counted and summed. It is read with this limit for a memory of len
+-- words.
+pub record Checking (limit len : ℕ) (body left : List ℕ) (n sum : ℕ) : Type 0 where
+  pub few : n + length left ≤ length body
   pub small : sum < 65536
-  pub same : summary n sum (body_of limit len (drop at body)) ≡ summary 0 0 (body_of limit len body)
+  pub same : summary n sum (body_of limit len left) ≡ summary 0 0 (body_of limit len body)
 
-pub checking : (limit len : ℕ) (body : List ℕ) → Checking limit len body 0 0 0
-checking limit len body = record { here = record { within = omega arith }; few = omega arith; small = lit< tt; same = refl }
+pub checking : (limit len : ℕ) (body : List ℕ) → Checking limit len body body 0 0
+checking limit len body = record { few = omega arith; small = lit< tt; same = refl }
 
--- what the next part shows; the code reads it off a slice from byte at on
-module _ {limit len : ℕ} {body : List ℕ} {at : ℕ} {p : Part} (k : Reading limit len body at) (e : p ≡ part_of limit len (take (length body - at) (drop at body))) where
-  part-is : p ≡ part_of limit len (drop at body)
-  part-is = rw (rest body at) at e
-
-  pub part-whole : {a c : ℕ} → p ≡ record_part a c → Sound limit len (take (length body - at) (drop at body)) a c
-  part-whole {a} {c} f = rw (rest body at) (part_sound limit len (drop at body) a c (sym part-is ∙ f))
-
-  pub reading-on : {a c : ℕ} → p ≡ record_part a c → Reading limit len body (at + record_bytes c)
-  reading-on {a} {c} f =
-      let s = part_sound limit len (drop at body) a c (sym part-is ∙ f) in
-      let w = k.within in
-      record { within = omega (arith, s.complete, length-drop at body) }
+-- what the next part shows
+module _ (limit len : ℕ) (left : List ℕ) {p : Part} (e : p ≡ part_of limit len left) where
+  pub part-whole : {a c : ℕ} → p ≡ record_part a c → Sound limit len left a c
+  part-whole {a} {c} f = part_sound limit len left a c (sym e ∙ f)
 
   -- the bytes of a record that is read go past its mark
-  pub reading-past-mark : {a c : ℕ} → p ≡ record_part a c → address_at ≤ length (take (at + record_bytes c - at) (drop at body))
-  reading-past-mark {a} {c} f =
-      let w = (reading-on f).within in
-      omega (arith, length-take (at + record_bytes c - at) (drop at body), length-drop at body)
+  pub reading-past-mark : {a c : ℕ} → p ≡ record_part a c → address_at ≤ length (take (record_bytes c) left)
+  reading-past-mark {a} {c} f = omega (arith, (part-whole f).complete, length-take (record_bytes c) left)
 
-  pub reading-less : {a c : ℕ} → p ≡ record_part a c → length body - (at + record_bytes c) < length body - at
-  reading-less f = omega (arith, (reading-on f).within)
+  body_is : {q : Part} → p ≡ q → body_of limit len left ≡ follow (body_of limit len) left q
+  body_is f = body-law limit len left ∙ ap (follow (body_of limit len) left) (sym e ∙ f)
 
-  body_is : {q : Part} → p ≡ q → body_of limit len (drop at body) ≡ follow (body_of limit len) (drop at body) q
-  body_is f = body-law limit len (drop at body) ∙ ap (follow (body_of limit len) (drop at body)) (sym part-is ∙ f)
-
-module _ {limit len : ℕ} {body : List ℕ} {at n sum : ℕ} {p : Part} (k : Checking limit len body at n sum)
-    (e : p ≡ part_of limit len (take (length body - at) (drop at body))) where
+module _ {limit len : ℕ} {body left : List ℕ} {n sum : ℕ} {p : Part} (k : Checking limit len body left n sum) (e : p ≡ part_of limit len left) where
   pub checking-on : {a c t next : ℕ} → p ≡ record_part a c
-      → t ≡ total (all_words (drop address_at (take (at + record_bytes c - at) (drop at body)))) % 65536 → next ≡ wrap_add sum t
-      → Checking limit len body (at + record_bytes c) (n + 1) next
+      → t ≡ total (all_words (drop address_at (take (record_bytes c) left))) % 65536 → next ≡ wrap_add sum t
+      → Checking limit len body (drop (record_bytes c) left) (n + 1) next
   checking-on {a} {c} {t} {next} f g h =
-      let s = part_sound limit len (drop at body) a c (sym (part-is k.here e) ∙ f) in
-      let z : at + record_bytes c - at ≡ record_bytes c = omega arith in
-      let v = rw s.address at (numbers-added (drop at body) c s.complete s.count) in
-      let u : next ≡ wrap_add sum (record_sum (record_at a c (drop at body)) % 65536) = h ∙ ap (wrap_add sum) (rw (z, v) at g) in
+      let s = part-whole limit len left e f in
+      let v = rw s.address at (numbers-added left c s.complete s.count) in
+      let u : next ≡ wrap_add sum (record_sum (record_at a c left) % 65536) = h ∙ ap (wrap_add sum) (rw v at g) in
       record {
-        here = reading-on k.here e f;
-        few = omega (arith, k.few);
+        few = omega (arith, k.few, s.complete, length-drop (record_bytes c) left);
         small = rw h (add_low sum t);
         same =
-            rw (← drop-drop (record_bytes c) at body) (
-            summary-on n sum next (record_at a c (drop at body)) (body_of limit len (drop (record_bytes c) (drop at body))) u
-            ∙ ap (summary n sum) (sym (body_is k.here e f))
-            ∙ k.same);
+            summary-on n sum next (record_at a c left) (body_of limit len (drop (record_bytes c) left)) u
+            ∙ ap (summary n sum) (sym (body_is limit len left e f))
+            ∙ k.same;
       }
 
-  pub checking-tail : {stated : ℕ} → p ≡ tail_part stated → Whole n sum stated ≡ summary 0 0 (body_of limit len body)
+  pub checking-tail : {stated : ℕ} → p ≡ tail_part stated → Ok (record { records = n; sum = sum; stated = stated }) ≡ summary 0 0 (body_of limit len body)
   checking-tail {stated} f =
       let z : n + 0 ≡ n = omega arith in
       let m : (sum + 0) % 65536 ≡ sum = omega (arith, k.small) in
-      rw (z, m) at (ap (summary n sum) (sym (body_is k.here e f))) ∙ k.same
+      rw (z, m) at (ap (summary n sum) (sym (body_is limit len left e f))) ∙ k.same
 
-  pub checking-broken : {r : Refusal} → p ≡ offence_part r → Broken r ≡ summary 0 0 (body_of limit len body)
-  checking-broken f = ap (summary n sum) (sym (body_is k.here e f)) ∙ k.same
+  pub checking-broken : {r : Refusal} → p ≡ offence_part r → Err r ≡ summary 0 0 (body_of limit len body)
+  checking-broken f = ap (summary n sum) (sym (body_is limit len left e f)) ∙ k.same
 
 whole-rest : (r : Record) (b : Body) → is_whole (with_record r b) ≡ true → is_whole b ≡ true
 whole-rest r (whole rs stated) h = refl
@@ -146,45 +124,46 @@ placed-rest : (m : List ℕ) (r : Record) (b : Body) → is_whole b ≡ true →
 placed-rest m r (whole rs stated) h = refl
 placed-rest m r (broken e) h = let z : ◌≡◌ {A = ℕ} 0 1 = cc in absurd (omega arith)
 
--- The second pass: the records before byte at are stored, and what is left is known to be whole.
-pub record Storing (limit : ℕ) (body m₀ : List ℕ) (at : ℕ) (m : List ℕ) : Type 0 where
-  pub here : Reading limit (length m₀) body at
+placed_none : (on : List ℕ → Body) (m bytes : List ℕ) (p : Part) → none_first ≡ first_of p → placed_body m (follow on bytes p) ≡ m
+placed_none on m bytes (record_part a c) e = let z : ◌≡◌ {A = ℕ} 0 1 = cc in absurd (omega arith)
+placed_none on m bytes (tail_part s) e = refl
+placed_none on m bytes (offence_part r) e = refl
+
+-- The second pass: the records before those that are left of a body are stored, and what is left is known to be whole.
+pub record Storing (limit : ℕ) (body m₀ left m : List ℕ) : Type 0 where
   pub size : length m ≡ length m₀
-  pub good : is_whole (body_of limit (length m₀) (drop at body)) ≡ true
-  pub same : placed_body m (body_of limit (length m₀) (drop at body)) ≡ placed_body m₀ (body_of limit (length m₀) body)
+  pub good : is_whole (body_of limit (length m₀) left) ≡ true
+  pub same : placed_body m (body_of limit (length m₀) left) ≡ placed_body m₀ (body_of limit (length m₀) body)
 
-pub storing : (limit : ℕ) (body m : List ℕ) → is_whole (body_of limit (length m) body) ≡ true → Storing limit body m 0 m
-storing limit body m h = record { here = record { within = omega arith }; size = refl; good = h; same = refl }
+pub storing : (limit : ℕ) (body m : List ℕ) → is_whole (body_of limit (length m) body) ≡ true → Storing limit body m body m
+storing limit body m h = record { size = refl; good = h; same = refl }
 
-module _ {limit : ℕ} {body m₀ : List ℕ} {at : ℕ} {m : List ℕ} {p : Part} (k : Storing limit body m₀ at m)
-    (e : p ≡ part_of limit (length m) (take (length body - at) (drop at body))) where
+module _ {limit : ℕ} {body m₀ left m : List ℕ} (k : Storing limit body m₀ left m) where
   -- the memory keeps its length, so that both passes read alike
-  pub storing-part : p ≡ part_of limit (length m₀) (take (length body - at) (drop at body))
-  storing-part = rw k.size at e
+  module _ {a c : ℕ} (e : record_first a c ≡ first_of (part_of limit (length m) left)) where
+    front-is : part_of limit (length m₀) left ≡ record_part a c
+    front-is = first_part a c _ (rw k.size at e)
 
-  pub storing-on : {a c : ℕ} {n : List ℕ} → p ≡ record_part a c
-      → n ≡ overwrite m a (record_at a c (take (length body - at) (drop at body))).words → Storing limit body m₀ (at + record_bytes c) n
-  storing-on {a} {c} {n} f g =
-      let r = record_at a c (drop at body) in
-      let b = body_of limit (length m₀) (drop (record_bytes c) (drop at body)) in
-      let v : n ≡ overwrite m a r.words = rw (rest body at) at g in
-      let w = (part-whole k.here storing-part f).within in
-      let l = words-length c (drop record_head_bytes (drop at body)) in
-      let o = overwrite-length m a r.words (omega (arith, k.size)) in
-      let i = body_is k.here storing-part f in
-      let h : is_whole b ≡ true = whole-rest r b (rw i at k.good) in
-      record {
-        here = reading-on k.here storing-part f;
-        size = ap length v ∙ o ∙ k.size;
-        good = rw (← drop-drop (record_bytes c) at body) h;
-        same = rw (← drop-drop (record_bytes c) at body, v) (placed-rest m r b h ∙ ap (placed_body m) (sym i) ∙ k.same);
-      }
+    pub storing-part : Sound limit (length m₀) left a c
+    storing-part = part_sound limit (length m₀) left a c front-is
 
-  pub storing-tail : {stated : ℕ} → p ≡ tail_part stated → m ≡ placed_body m₀ (body_of limit (length m₀) body)
-  storing-tail f = ap (placed_body m) (sym (body_is k.here storing-part f)) ∙ k.same
+    pub storing-on : {n : List ℕ} → n ≡ overwrite m a (record_at a c left).words → Storing limit body m₀ (drop (record_bytes c) left) n
+    storing-on {n} v =
+        let r = record_at a c left in
+        let b = body_of limit (length m₀) (drop (record_bytes c) left) in
+        let w = storing-part.within in
+        let l = words-length c (drop record_head_bytes left) in
+        let o = overwrite-length m a r.words (omega (arith, k.size)) in
+        let i = body_is limit (length m₀) left refl front-is in
+        let h : is_whole b ≡ true = whole-rest r b (rw i at k.good) in
+        record {
+          size = ap length v ∙ o ∙ k.size;
+          good = h;
+          same = rw v (placed-rest m r b h ∙ ap (placed_body m) (sym i) ∙ k.same);
+        }
 
-  pub storing-broken : {A : Type 0} {r : Refusal} → p ≡ offence_part r → A
-  storing-broken f =
-      let b : false ≡ true = ap is_whole (sym (body_is k.here storing-part f)) ∙ k.good in
-      let z : ◌≡◌ {A = ℕ} 0 1 = cc in
-      absurd (omega arith)
+  pub storing-end : none_first ≡ first_of (part_of limit (length m) left) → m ≡ placed_body m₀ (body_of limit (length m₀) body)
+  storing-end e =
+      sym (placed_none (body_of limit (length m₀)) m left (part_of limit (length m₀) left) (rw k.size at e))
+      ∙ ap (placed_body m) (sym (body-law limit (length m₀) left))
+      ∙ k.same

@@ -11,8 +11,8 @@ use borrow.Author.Tests.{eq-eqb, ne_eqb, le-ltb}
 use Rattle.refusal.specs.declared.Refusal.TheVariants.{MemoryTooLong, PastMemory, RoomTooSmall, WrongBoard}
 use Rattle.refusal.specs.Report.{answered}
 use Rattle.refusal.proofs.ReportLaws.{no_answer}
-use Rattle.memory.specs.declared.Admission.{Admission}
-use Rattle.memory.specs.declared.Admission.TheVariants.{Admitted, Barred}
+use Rattle.std.proofs.Common.{Result, Ok, Err}
+use Rattle.refusal.specs.declared.Refusal.{Refusal}
 use Rattle.memory.specs.Bus.{unless_barred}
 use Rattle.memory.specs.Memory.{too_long}
 use Rattle.word.proofs.Choice.{cond-true, cond-false}
@@ -161,10 +161,10 @@ module _ (head : ImageHead) (cut : ℕ) (m : List ℕ) (first last : ℕ) (file 
       let l : length image ≡ length file = cc in
       record { region = k; is = sym f ∙ rw (← l) (take-append_seam image (drop (0 + length image) room)) }
 
-  made_by : (a : Admission) → region_admission m first last ≡ a → Shows (unless_barred a (refuse_write room) (writing room (region_image head cut m first last)))
+  made_by : (a : Result (Unit {0}) Refusal) → region_admission m first last ≡ a → Shows (unless_barred a (refuse_write room) (writing room (region_image head cut m first last)))
   unfolding writing image
-  made_by (Barred r) h e f = no_answer e
-  made_by Admitted h e f = made-room (admitted-region m first last h) (ltb (length room) (length image)) e f
+  made_by (Err r) h e f = no_answer e
+  made_by (Ok u) h e f = made-room (admitted-region m first last h) (ltb (length room) (length image)) e f
 
   made : Shows (write_with head cut m first last room)
   unfolding write_with

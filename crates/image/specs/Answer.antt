@@ -1,23 +1,21 @@
 -- What the writer reports, in document 01's numbers: the refusal's number, or the one number that is asked for. And what stands at the
 -- front of some bytes of a file.
-use Rattle.std.specs.Prelude.{ℕ}
+use Rattle.std.specs.Prelude.{ℕ, Option, None, Some, Result, Ok, Err}
+use Rattle.refusal.specs.declared.Refusal.{Refusal}
 use Rattle.refusal.specs.Refusals.{refusal_number}
 use Rattle.refusal.specs.Report.{Report, refused, answered, OneToOne}
-use Rattle.image.specs.declared.WriteAnswer.{WriteAnswer}
-use Rattle.image.specs.declared.WriteAnswer.TheVariants.{Refused, Written}
 use Rattle.image.specs.declared.FirstRecord.{FirstRecord}
-use Rattle.image.specs.declared.FirstRecord.TheVariants.{Record as FoundRecord, NoRecord}
 use Rattle.image.specs.Read.{First, record_first, none_first}
 
 -- The writer "answers the length".
-abbrev pub write_reported : WriteAnswer → Report ℕ
-write_reported (Refused r) = refused (refusal_number r)
-write_reported (Written bytes) = answered bytes
+abbrev pub write_reported : Result ℕ Refusal → Report ℕ
+write_reported (Err r) = refused (refusal_number r)
+write_reported (Ok bytes) = answered bytes
 
 -- a record's address and count, or that there is none
-abbrev pub first_reported : FirstRecord → First
-first_reported (FoundRecord address count) = record_first address count
-first_reported NoRecord = none_first
+abbrev pub first_reported : Option FirstRecord → First
+first_reported (Some r) = record_first r.address r.count
+first_reported None = none_first
 
 -- no two answers are reported alike
 abbrev pub WriteAnswersApart : Type 0

@@ -1,9 +1,8 @@
 -- Document 02, [7]: "raise the count limit from 1,024 to 4,096 words". What the old writer and loader did, beside what the new ones do. They
 -- are the same definitions at 1,024, so the laws speak of two cuts, or of two limits. Statements; the proofs are in proofs/.
-use Rattle.std.specs.Prelude.{ℕ, ◌<◌, ◌≤◌, ◌≡◌, true, false, List, [], ◌∷◌, length, drop, replicate}
+use Rattle.std.specs.Prelude.{ℕ, ◌<◌, ◌≤◌, ◌≡◌, true, false, Ok, List, [], ◌∷◌, length, drop, replicate}
 use Rattle.refusal.specs.declared.Refusal.TheVariants.{MalformedImage}
 use Rattle.refusal.specs.Report.{refused, answered}
-use Rattle.memory.specs.declared.Admission.TheVariants.{Admitted}
 use Rattle.memory.specs.Memory.{too_long}
 use Rattle.bigendian.specs.Numbers.{word_at}
 use Rattle.records.specs.Records.{is_within}
@@ -43,7 +42,7 @@ old_load_of board m file = load_with head_of old_limit board m file
 abbrev pub EveryRegionIsWritten : Type 0
 EveryRegionIsWritten =
     (head : ImageHead) (cut : ℕ) (m : List ℕ) (first last : ℕ) →
-    region_admission m first last ≡ Admitted →
+    region_admission m first last ≡ Ok (tt {0}) →
     WrittenFile head cut m first last (region_image head cut m first last)
 
 -- Two writings of one region with one head, each at any cut from 1 to the loader's limit, loaded alike: for any board, named or not, and

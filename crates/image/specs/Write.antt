@@ -1,6 +1,6 @@
 -- The writer: "The writer covers a region with full records of 4,096, the last perhaps shorter", as document 02 amends it,
 -- refused by 1, 7, 11 and 13 in this order.
-use Rattle.std.specs.Prelude.{ℕ, ◌+◌, ◌*◌, cond, List, ltb, length}
+use Rattle.std.specs.Prelude.{ℕ, ◌+◌, ◌*◌, cond, List, ltb, length, Result}
 use Rattle.refusal.specs.declared.Refusal.{Refusal}
 use Rattle.refusal.specs.declared.Refusal.TheVariants.{RoomTooSmall}
 use Rattle.refusal.specs.Refusals.{refusal_number}
@@ -9,7 +9,6 @@ use Rattle.memory.specs.Bus.{unless_barred}
 use Rattle.records.specs.Records.{overwrite}
 use Rattle.records.specs.Region.{words_between, region_admission}
 use Rattle.records.specs.Cut.{cut_of, record_count}
-use Rattle.image.specs.declared.WriteAnswer.{WriteAnswer}
 use Rattle.image.specs.Format.{record_limit, record_head_bytes, tail_bytes, ImageHead, id_head, image_of}
 use Rattle.image.specs.Answer.{write_reported}
 
@@ -46,5 +45,5 @@ abbrev pub write_of : ℕ → List ℕ → ℕ → ℕ → List ℕ → Writing
 write_of board m first last room = write_with (id_head board) record_limit m first last room
 
 -- the outcome that the code's answer and the room at its return stand for: the writer's contract says that it is `write_of`
-abbrev pub wrote : WriteAnswer → List ℕ → Writing
+abbrev pub wrote : Result ℕ Refusal → List ℕ → Writing
 wrote r room = record { answer = write_reported r; room = room }

@@ -9,15 +9,12 @@ use crate::parse::Part;
 use crate::{format, parse};
 use refusal::Refusal;
 
-// How many records there are, their sum, and the sum that the tail states; or the first offence.
+// How many records there are, their sum, and the sum that the tail states.
 #[derive(Clone, Copy)]
-pub(crate) enum Checked {
-    Whole {
-        records: usize,
-        sum: u16,
-        stated: u16,
-    },
-    Broken(Refusal),
+pub(crate) struct Checked {
+    pub records: usize,
+    pub sum: u16,
+    pub stated: u16,
 }
 
 // What the record of these bytes adds to the file's sum: all its numbers but the mark.
@@ -28,32 +25,27 @@ fn sum_record(bytes: &[u8]) -> u16
     bigendian::sum_words(&bytes[format::ADDRESS_AT..])
 }
 
-// `body` is the file after its head, and `size` the length of the memory that it is for.
-pub(crate) fn check_records(body: &[u8], size: usize) -> Checked
-    ensures { result ≡ summary 0 0 (body_of record_limit size body.now) }
+// `body` is the file after its head, and `len` the length of the memory that it is for. Answers the first offence in file order.
+pub(crate) fn check_records(body: &[u8], len: usize) -> Result<Checked, Refusal>
+    ensures { result ≡ summary 0 0 (body_of record_limit len body.now) }
 {
-    let mut at = 0;
+    let mut rest = body;
     let mut records = 0;
     let mut sum: u16 = 0;
     loop {
-        let part = parse::read_part(&body[at..], size);
-        match part {
-            Part::Record { address: _, count } => {
-                let bytes = format::RECORD_HEAD_BYTES + count as usize * 2;
-                let next = at + bytes;
-                sum = word::wrapping_add(sum, sum_record(&body[at..next]));
+        match parse::read_part(rest, len)? {
+            Part::Record(record) => {
+                let size = record.size();
+                sum = word::wrapping_add(sum, sum_record(&rest[..size]));
                 records += 1;
-                at = next;
+                rest = &rest[size..];
             }
             Part::Tail(stated) => {
-                return Checked::Whole {
-                    records: records,
-                    sum: sum,
-                    stated: stated,
-                };
-            }
-            Part::Offence(refusal) => {
-                return Checked::Broken(refusal);
+                return Ok(Checked {
+                    records,
+                    sum,
+                    stated,
+                });
             }
         }
     }

@@ -7,7 +7,7 @@ ghost use Rattle.image.specs.Format.{record_limit, head_bytes, record_bytes, rec
 ghost use Rattle.image.specs.Write.{image_length, wrote, writing};
 ghost use Rattle.image.specs.Inner.Emit.{RecordsPut};
 
-use crate::{WriteAnswer, format};
+use crate::format;
 use refusal::Refusal;
 
 // The bytes of the file of a region.
@@ -34,17 +34,6 @@ fn put_record(room: &mut [u8], address: u16, words: &[u16]) -> u16
     word::wrapping_add(word::wrapping_add(address, count), sum)
 }
 
-// How many words the next record has, of so many that are left.
-fn next_count(left: usize) -> usize
-    ensures { result ≡ min record_limit left }
-{
-    if left < format::RECORD_LIMIT {
-        left
-    } else {
-        format::RECORD_LIMIT
-    }
-}
-
 // The records of a region that begins at the address `first`, put behind the head. Answers their sum.
 fn put_records(room: &mut [u8], first: u16, region: &[u16]) -> u16
     requires { (first + length region.now ≤ 65536) × (image_length head_bytes record_limit (length region.now) ≤ length room.old) }
@@ -54,7 +43,7 @@ fn put_records(room: &mut [u8], first: u16, region: &[u16]) -> u16
     let mut start = 0;
     let mut sum: u16 = 0;
     while start < region.len() {
-        let count = next_count(region.len() - start);
+        let count = (region.len() - start).min(format::RECORD_LIMIT);
         let end = start + count;
         let address = (first as usize + start) as u16;
         // one number, by which the compiler sees that all of the record fits its part of the room
@@ -69,13 +58,18 @@ fn put_records(room: &mut [u8], first: u16, region: &[u16]) -> u16
 }
 
 // The file of a region that begins at the address `first`.
-pub(crate) fn put_image(room: &mut [u8], board: u16, first: u16, region: &[u16]) -> WriteAnswer
+pub(crate) fn put_image(
+    room: &mut [u8],
+    board: u16,
+    first: u16,
+    region: &[u16],
+) -> Result<usize, Refusal>
     requires { first + length region.now ≤ 65536 }
     ensures { wrote result room.new ≡ writing room.old (image_of (id_head board) (cut_of record_limit first region.now)) }
 {
     let bytes = image_length(region.len());
     if room.len() < bytes {
-        return WriteAnswer::Refused(Refusal::RoomTooSmall);
+        return Err(Refusal::RoomTooSmall);
     }
     bigendian::put_word(room, 0, format::ID_MARK);
     bigendian::put_word(room, format::BOARD_AT, board);
@@ -83,5 +77,5 @@ pub(crate) fn put_image(room: &mut [u8], board: u16, first: u16, region: &[u16])
     let tail = bytes - format::TAIL_BYTES;
     bigendian::put_word(room, tail, format::OK_MARK);
     bigendian::put_word(room, tail + format::SUM_AT, word::wrapping_add(board, sum));
-    WriteAnswer::Written(bytes)
+    Ok(bytes)
 }

@@ -5,19 +5,15 @@ ghost use Rattle.image.specs.Format.{record_limit, record_bytes, record_at};
 ghost use Rattle.image.specs.Read.{body_of};
 ghost use Rattle.image.specs.Inner.Pass.{is_whole, placed_body};
 
-use crate::parse::Part;
-use crate::{format, parse};
+use crate::{FirstRecord, format};
 
-fn store_record(bytes: &[u8], address: u16, count: u16, mem: &mut [u16])
-    requires { (record_bytes count ≤ length bytes.now) × (address + count ≤ length mem.old) }
-    ensures { mem.new ≡ overwrite mem.old address (record_at address count bytes.now).words }
+// The words of the record at the front of the bytes.
+fn store_record(bytes: &[u8], front: FirstRecord, mem: &mut [u16])
+    requires { (record_bytes front.count ≤ length bytes.now) × (front.address + front.count ≤ length mem.old) }
+    ensures { mem.new ≡ overwrite mem.old front.address (record_at front.address front.count bytes.now).words }
 {
-    let end = format::RECORD_HEAD_BYTES + count as usize * 2;
-    bigendian::read_words(
-        &bytes[format::RECORD_HEAD_BYTES..end],
-        mem,
-        address as usize,
-    );
+    let words = &bytes[format::RECORD_HEAD_BYTES..front.size()];
+    bigendian::read_words(words, mem, front.address as usize);
 }
 
 // `body` is the file after its head, which the first pass found whole.
@@ -25,20 +21,9 @@ pub(crate) fn store_records(body: &[u8], mem: &mut [u16])
     requires { is_whole (body_of record_limit (length mem.old) body.now) ≡ true }
     ensures { mem.new ≡ placed_body mem.old (body_of record_limit (length mem.old) body.now) }
 {
-    let mut at = 0;
-    loop {
-        let part = parse::read_part(&body[at..], mem.len());
-        match part {
-            Part::Record { address, count } => {
-                store_record(&body[at..], address, count, mem);
-                at += format::RECORD_HEAD_BYTES + count as usize * 2;
-            }
-            Part::Tail(_) => {
-                return;
-            }
-            Part::Offence(_) => {
-                return;
-            }
-        }
+    let mut rest = body;
+    while let Some(record) = crate::first_record(rest, mem.len()) {
+        store_record(rest, record, mem);
+        rest = &rest[record.size()..];
     }
 }

@@ -6,7 +6,6 @@ use mathlib.Core.List.{List, [], ◌∷◌}
 use native.Mathlib.Omega.{arith}
 use lib.Dec.{leb, ltb, eqb, lit<, lit≤}
 use lib.ListN.{length, get_or}
-use borrow.Author.Tests.{eq-eqb}
 use Rattle.word.specs.Word.{wrap_add}
 use Rattle.word.proofs.Choice.{cond_both, cond_either}
 use Rattle.memory.specs.Bus.{bus_of, read_of}
@@ -25,14 +24,12 @@ use Rattle.listing.specs.Disassemble.{text_at}
 use Rattle.listing.specs.Cut.{cut_at}
 use Rattle.listing.specs.Assemble.{no_line, held_to, assemble_of}
 use Rattle.listing.specs.Laws.{WordsOf}
-use Rattle.listing.specs.Inner.Rows.{template_of, base_of}
+use Rattle.listing.specs.Inner.Rows.{base_of}
 use Rattle.listing.specs.Inner.Line.{text_of}
-use Rattle.listing.specs.Inner.Table.{padded_of, ends_at}
 use Rattle.listing.specs.Inner.Guess.{Guesses}
 use Rattle.listing.specs.Inner.Entry.{row_entry_of, row_entry_at, row_text_at}
 use Rattle.listing.specs.Inner.Encode.{line_read, word_count, jump_word, jump_words, plain_words, opcode_in, encoded, first_words, memory_as}
-use Rattle.listing.proofs.Table.{base-low, ends-length}
-use Rattle.listing.proofs.Lines.{text-length}
+use Rattle.listing.proofs.Table.{base-low}
 use Rattle.listing.proofs.Entries.{entry_in, entry-of-words}
 use Rattle.listing.proofs.Back.{read-row, read-16}
 use Rattle.listing.proofs.EntryWith.{entry_with, cut_with, entry-with, cut-with, Trip}
@@ -288,21 +285,3 @@ module _ (text : List ℕ) (double : Bool) (g : ℕ) (low : g < 86) (guessed : G
   refused-by f =
       sym (not-assembled text double
       (λ w a b k e. clash (guess-accepts (three w a b) 0 (text_is (three w a b) 0 double ∙ e) (second_word text double w a b k)) f))
-
-  -- a text that is not as long as the lines of its row, and one that lists as a line of another row
-  pub refused-length : ends_at (padded_of g) (length text) ≡ false → no_line ≡ assemble_of text double
-  refused-length e = refused-by (go accepts refl)
-    where
-      go : (b : Bool) → accepts ≡ b → accepts ≡ false
-      go true ok =
-          let s = same-eq (row_text_at memory 0 double) text ok in
-          let long = ap (λ (r : ℕ). length (template_of r)) (its-row memory 0 s) ∙ sym (text-length (its-line memory 0 s)) ∙ ap length s in
-          clash (eq-eqb (length (template_of g)) (length text) long) (sym (ends-length g (length text) low) ∙ e)
-      go false none = none
-
-  pub refused-row : ((row_entry_at memory 0 double).line.row ≡ g → ⊥) → no_line ≡ assemble_of text double
-  refused-row other = refused-by (go accepts refl)
-    where
-      go : (b : Bool) → accepts ≡ b → accepts ≡ false
-      go true ok = absurd (other (sym (its-row memory 0 (same-eq (row_text_at memory 0 double) text ok))))
-      go false none = none

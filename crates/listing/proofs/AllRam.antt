@@ -1,7 +1,7 @@
 -- An all-RAM map lets in whom plain memory does, and then reads alike.
+use Rattle.std.proofs.Common.{Result, Ok, Err}
 use mathlib.Core.Path.{◌≡◌, refl}
-use Rattle.memory.specs.declared.Admission.{Admission}
-use Rattle.memory.specs.declared.Admission.TheVariants.{Admitted, Barred}
+use Rattle.refusal.specs.declared.Refusal.{Refusal}
 use Rattle.memory.specs.Bus.{bus_of, bus_on, admission_of}
 use Rattle.memory.proofs.AllRamLaws.{all-ram-laws}
 use Rattle.listing.specs.Disassemble.{disassemble_of}
@@ -11,6 +11,6 @@ pub all-ram-lists : AllRamLists
 unfolding disassemble_of
 all-ram-lists b m h at double room = go (admission_of (bus_of m)) refl
   where
-    go : (x : Admission) → admission_of (bus_of m) ≡ x → disassemble_of (bus_on b m) at double room ≡ disassemble_of (bus_of m) at double room
-    go Admitted e = rw (all-ram-laws.admits b m h, all-ram-laws.reads b m h e)
-    go (Barred r) e = rw (all-ram-laws.admits b m h, e)
+    go : (x : Result (Unit {0}) Refusal) → admission_of (bus_of m) ≡ x → disassemble_of (bus_on b m) at double room ≡ disassemble_of (bus_of m) at double room
+    go (Ok u) e = rw (all-ram-laws.admits b m h, all-ram-laws.reads b m h e)
+    go (Err r) e = rw (all-ram-laws.admits b m h, e)

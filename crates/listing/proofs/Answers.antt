@@ -2,40 +2,39 @@
 use Prim.Native.Nat.{ℕ}
 use mathlib.Core.Path.{◌≡◌, ap, sym}
 use native.Mathlib.Omega.{arith}
+use Rattle.std.specs.Prelude.{Ok, Err}
 use Rattle.refusal.specs.Report.{OneToOne}
 use Rattle.refusal.proofs.ReportLaws.{no_answer, same_answer, same-refusal}
-use Rattle.listing.specs.declared.Listing.TheVariants.{Refused as ListingRefused, Listed}
-use Rattle.listing.specs.declared.Assembly.TheVariants.{Refused as AssemblyRefused, One, Two, Three}
-use Rattle.listing.specs.Answer.{ListedLine, listing_reported, assembly_reported, AnswersApart}
+use Rattle.listing.specs.declared.Assembly.TheVariants.{One, Two, Three}
+use Rattle.listing.specs.Answer.{ListedLine, words_in, listing_reported, assembly_reported, AnswersApart}
 
 listings : OneToOne listing_reported
-listings (ListingRefused a) (ListingRefused b) e = ap ListingRefused (same-refusal a b e)
-listings (ListingRefused a) (Listed l w d) e = no_answer e
-listings (Listed l w d) (ListingRefused b) e = no_answer (sym e)
-listings (Listed l w d) (Listed m v c) e =
-    ap (λ (x : ListedLine). Listed x.length x.words x.double) (same_answer e)
+listings (Err a) (Err b) e = ap Err (same-refusal a b e)
+listings (Err a) (Ok y) e = no_answer e
+listings (Ok x) (Err b) e = no_answer (sym e)
+listings (Ok x) (Ok y) e =
+    ap (λ (l : ListedLine). Ok (record { length = l.length; words = l.words; double = l.double })) (same_answer e)
 
 -- two lists of words that differ in length
 unlike : {A : Type 0} → ◌≡◌ {A = ℕ} 0 1 → A
 unlike z = absurd (omega arith)
 
+words-apart : OneToOne words_in
+words-apart (One w) (One v) e = cc
+words-apart (One w) (Two v x) e = unlike (cc)
+words-apart (One w) (Three v x y) e = unlike (cc)
+words-apart (Two w a) (One v) e = unlike (cc)
+words-apart (Two w a) (Two v x) e = cc
+words-apart (Two w a) (Three v x y) e = unlike (cc)
+words-apart (Three w a b) (One v) e = unlike (cc)
+words-apart (Three w a b) (Two v x) e = unlike (cc)
+words-apart (Three w a b) (Three v x y) e = cc
+
 assemblies : OneToOne assembly_reported
-assemblies (AssemblyRefused a) (AssemblyRefused b) e = ap AssemblyRefused (same-refusal a b e)
-assemblies (AssemblyRefused a) (One w) e = no_answer e
-assemblies (AssemblyRefused a) (Two w x) e = no_answer e
-assemblies (AssemblyRefused a) (Three w x y) e = no_answer e
-assemblies (One w) (AssemblyRefused b) e = no_answer (sym e)
-assemblies (One w) (One v) e = cc
-assemblies (One w) (Two v x) e = unlike (cc)
-assemblies (One w) (Three v x y) e = unlike (cc)
-assemblies (Two w a) (AssemblyRefused b) e = no_answer (sym e)
-assemblies (Two w a) (One v) e = unlike (cc)
-assemblies (Two w a) (Two v x) e = cc
-assemblies (Two w a) (Three v x y) e = unlike (cc)
-assemblies (Three w a b) (AssemblyRefused c) e = no_answer (sym e)
-assemblies (Three w a b) (One v) e = unlike (cc)
-assemblies (Three w a b) (Two v x) e = unlike (cc)
-assemblies (Three w a b) (Three v x y) e = cc
+assemblies (Err a) (Err b) e = ap Err (same-refusal a b e)
+assemblies (Err a) (Ok y) e = no_answer e
+assemblies (Ok x) (Err b) e = no_answer (sym e)
+assemblies (Ok x) (Ok y) e = ap Ok (words-apart x y (same_answer e))
 
 pub answers-apart : AnswersApart
 answers-apart = record { listings = listings; assemblies = assemblies }

@@ -1,4 +1,5 @@
 -- The entry at an address: its row is in the table, and it is that of three words.
+use Rattle.std.proofs.Common.{Option, None, Some}
 use Prim.Native.Nat.{ℕ, zero, suc, ◌+◌, ◌*◌, ◌/◌, ◌%◌, ◌<◌, ◌≤◌}
 use mathlib.Core.Path.{◌≡◌, refl, ap, ◌∙◌}
 use mathlib.Core.Bool.{Bool, true, false, cond}
@@ -11,8 +12,6 @@ use Rattle.word.specs.Word.{wrap_add}
 use Rattle.word.proofs.Choice.{cond_both, cond_either}
 use Rattle.decode.specs.declared.Instr.{Instr}
 use Rattle.decode.specs.declared.Instr.TheVariants.{Hlt, Control, Jump, Single, Gswd, Nop, Sin, Shift, Register, Branch, Store, Read}
-use Rattle.decode.specs.declared.Decoded.{Decoded}
-use Rattle.decode.specs.declared.Decoded.TheVariants.{Unspecified, Known}
 use Rattle.decode.specs.Fields.{is_external, Return, no_return, return_in, return_of, jump_target, jump_bits}
 use Rattle.decode.specs.Decode.{decode_at, decode_words}
 use Rattle.decode.specs.Rows.{row_of}
@@ -105,29 +104,29 @@ pub entry_in : (read : ℕ → ℕ) (at : ℕ) (double : Bool) → InTable (row_
 unfolding row_entry_at row_entry_for
 entry_in read at double = go (decode_at read at false)
   where
-    go : (x : Decoded) → InTable (row_entry_of x double (read (wrap_add at 1)) (read (wrap_add at 2))).line
-    go Unspecified = lit< tt
-    go (Known i) = line-in i (line_operand (row_of i double).words (read (wrap_add at 1)) (read (wrap_add at 2))) (read (wrap_add at 1)) (read (wrap_add at 2))
+    go : (x : Option Instr) → InTable (row_entry_of x double (read (wrap_add at 1)) (read (wrap_add at 2))).line
+    go None = lit< tt
+    go (Some i) = line-in i (line_operand (row_of i double).words (read (wrap_add at 1)) (read (wrap_add at 2))) (read (wrap_add at 1)) (read (wrap_add at 2))
 
 -- the words at an address are decoded by themselves
 pub entry-of-words : (read : ℕ → ℕ) (at : ℕ) (double : Bool)
     → row_entry_of (decode_words (read at) (read (wrap_add at 1))) double (read (wrap_add at 1)) (read (wrap_add at 2)) ≡ row_entry_at read at double
 unfolding row_entry_at
-entry-of-words read at double = ap (λ (x : Decoded). row_entry_of x double (read (wrap_add at 1)) (read (wrap_add at 2))) (decodes-in-steps.words read at)
+entry-of-words read at double = ap (λ (x : Option Instr). row_entry_of x double (read (wrap_add at 1)) (read (wrap_add at 2))) (decodes-in-steps.words read at)
 
 -- words used are the same in document 01's entry
 pub entry-words : (read : ℕ → ℕ) (at : ℕ) (double : Bool) → (entry_at read at double).words ≡ (row_entry_at read at double).words
 unfolding entry_at row_entry_at row_entry_for
 entry-words read at double = go (decode_at read at false)
   where
-    go : (x : Decoded) → (entry_of x double (read (wrap_add at 1)) (read (wrap_add at 2))).words ≡ (row_entry_of x double (read (wrap_add at 1)) (read (wrap_add at 2))).words
-    go Unspecified = refl
-    go (Known i) = refl
+    go : (x : Option Instr) → (entry_of x double (read (wrap_add at 1)) (read (wrap_add at 2))).words ≡ (row_entry_of x double (read (wrap_add at 1)) (read (wrap_add at 2))).words
+    go None = refl
+    go (Some i) = refl
 
 pub entry-count : (read : ℕ → ℕ) (at : ℕ) (double : Bool) → (1 ≤ (entry_at read at double).words) × ((entry_at read at double).words ≤ 3)
 unfolding entry_at
 entry-count read at double = go (decode_at read at false)
   where
-    go : (x : Decoded) → (1 ≤ (entry_of x double (read (wrap_add at 1)) (read (wrap_add at 2))).words) × ((entry_of x double (read (wrap_add at 1)) (read (wrap_add at 2))).words ≤ 3)
-    go Unspecified = (lit≤ tt, lit≤ tt)
-    go (Known i) = (row-bounds.words_least i double, row-bounds.words_most i double)
+    go : (x : Option Instr) → (1 ≤ (entry_of x double (read (wrap_add at 1)) (read (wrap_add at 2))).words) × ((entry_of x double (read (wrap_add at 1)) (read (wrap_add at 2))).words ≤ 3)
+    go None = (lit≤ tt, lit≤ tt)
+    go (Some i) = (row-bounds.words_least i double, row-bounds.words_most i double)

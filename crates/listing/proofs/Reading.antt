@@ -1,10 +1,5 @@
 -- A text read along a template, symbol by symbol.
-use Prim.Native.Nat.{ℕ, ◌+◌, ◌<◌, ◌≤◌}
-use mathlib.Core.Path.{◌≡◌}
-use mathlib.Core.List.{List}
-use native.Mathlib.Numerals.{add-one}
-use lib.ListN.{length, get_or, drop, drop_of_length-le}
-use lib.Seq.{drop-cons}
+use Rattle.std.proofs.Common.{ℕ, ◌≡◌, ◌<◌, refl, List, [], ◌∷◌, length, arith}
 use borrow.Author.Tests.{lt-ltb}
 use Rattle.listing.specs.declared.line.Line.{Line}
 use Rattle.listing.specs.Inner.Rows.{first_letter}
@@ -15,10 +10,12 @@ pub literal : (l : Line) (h c : ℕ) → h < first_letter → with_symbol l h c 
 unfolding with_symbol
 literal l h c p = rw (lt-ltb _ _ p)
 
--- a turn of a loop that reads, and its end
-pub read-step : (t text : List ℕ) (l : Line) (i : ℕ) → i < length t → i < length text
-    → read_in (drop i t) (drop i text) l ≡ read_in (drop (i + 1) t) (drop (i + 1) text) (with_symbol l (get_or t i 0) (get_or text i 0))
-read-step t text l i h k = rw (add-one, drop-cons t i 0 h, drop-cons text i 0 k)
+-- nothing is read past the template, nor past the text
+pub past-template : (t text : List ℕ) (l : Line) → length t ≡ 0 → read_in t text l ≡ l
+past-template [] text l e = refl
+past-template (h ∷ t) text l e = absurd (omega arith)
 
-pub read-end : (t text : List ℕ) (l : Line) (i : ℕ) → length t ≤ i → read_in (drop i t) (drop i text) l ≡ l
-read-end t text l i h = rw (drop_of_length-le t h)
+pub past-text : (t text : List ℕ) (l : Line) → length text ≡ 0 → read_in t text l ≡ l
+past-text [] text l e = refl
+past-text (h ∷ t) [] l e = refl
+past-text (h ∷ t) (c ∷ text) l e = absurd (omega arith)

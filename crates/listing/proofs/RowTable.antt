@@ -1,4 +1,5 @@
 -- (e) of `specs/Laws`: words used and next D are those of the row table.
+use Rattle.std.proofs.Common.{None, Some}
 use Prim.Native.Nat.{ℕ, ◌<◌}
 use mathlib.Core.Path.{◌≡◌, refl, sym, ap, ◌∙◌}
 use mathlib.Core.Bool.{Bool, true, false, cond, ◌&&◌}
@@ -7,7 +8,6 @@ use lib.Dec.{T, eqb, leb, eqb→eq}
 use borrow.Author.Tests.{eq-eqb}
 use Rattle.word.specs.Word.{wrap_add}
 use Rattle.decode.specs.declared.Instr.{Instr}
-use Rattle.decode.specs.declared.Decoded.TheVariants.{Unspecified, Known}
 use Rattle.decode.specs.Fields.{opcode_of, field_s, jump_bits}
 use Rattle.decode.specs.Decode.{control_instruction, status_instruction, low_instruction, instruction_of, is_unspecified, decode_at}
 use Rattle.decode.specs.Rows.{interruptible_entry, plain_entry, halt_entry, control_entry, jump_entry, register_entry, shift_entry, branch_entry, memory_words, store_entry, read_words, read_entry, row_of}
@@ -18,7 +18,7 @@ use Rattle.listing.specs.Disassemble.{Entry, decle_entry, entry_at}
 use Rattle.listing.specs.Laws.{EveryRowFollows}
 use Rattle.listing.proofs.Tests.{imp, imp-at}
 
-known-one : {A : Type 0} {i : Instr} → Unspecified ≡ Known i → A
+known-one : {A : Type 0} {i : Instr} → None ≡ Some i → A
 known-one e = let z : ◌≡◌ {A = ℕ} 0 1 = cc in absurd (omega arith)
 
 -- what an entry takes from the row of its instruction
@@ -36,27 +36,27 @@ module _ (read : ℕ → ℕ) (at : ℕ) where
   abbrev stacked : Bool
   stacked = leb 0x280 w && eqb (field_s w) 6
 
-  decoded : (double : Bool) → decode_at read at double ≡ cond (cond (eqb w 4) ends (double && stacked)) Unspecified (Known (instruction_of w))
+  decoded : (double : Bool) → decode_at read at double ≡ cond (cond (eqb w 4) ends (double && stacked)) None (Some (instruction_of w))
   unfolding decode_at is_unspecified
   decoded double = refl
 
-  is_known : (double : Bool) (i : Instr) → decode_at read at double ≡ Known i → i ≡ instruction_of w
+  is_known : (double : Bool) (i : Instr) → decode_at read at double ≡ Some i → i ≡ instruction_of w
   is_known double i e = go (cond (eqb w 4) ends (double && stacked)) (sym (decoded double) ∙ e)
     where
-      go : (b : Bool) → cond b Unspecified (Known (instruction_of w)) ≡ Known i → i ≡ instruction_of w
+      go : (b : Bool) → cond b None (Some (instruction_of w)) ≡ Some i → i ≡ instruction_of w
       go true e = known-one e
       go false e = cc
 
-  clear : (double : Bool) (i : Instr) → decode_at read at double ≡ Known i → decode_at read at false ≡ Known i
-  clear double i e = decoded false ∙ go (eqb w 4) ends stacked double (sym (decoded double) ∙ e) (ap Known (sym (is_known double i e)))
+  clear : (double : Bool) (i : Instr) → decode_at read at double ≡ Some i → decode_at read at false ≡ Some i
+  clear double i e = decoded false ∙ go (eqb w 4) ends stacked double (sym (decoded double) ∙ e) (ap Some (sym (is_known double i e)))
     where
-      go : (j b s d : Bool) → cond (cond j b (d && s)) Unspecified (Known (instruction_of w)) ≡ Known i → Known (instruction_of w) ≡ Known i
-          → cond (cond j b (false && s)) Unspecified (Known (instruction_of w)) ≡ Known i
+      go : (j b s d : Bool) → cond (cond j b (d && s)) None (Some (instruction_of w)) ≡ Some i → Some (instruction_of w) ≡ Some i
+          → cond (cond j b (false && s)) None (Some (instruction_of w)) ≡ Some i
       go true b s d e k = e
       go false b s true e k = k
       go false b s false e k = e
 
-  entry_of : (double : Bool) (i : Instr) → decode_at read at false ≡ Known i → Follows (entry_at read at double) i double
+  entry_of : (double : Bool) (i : Instr) → decode_at read at false ≡ Some i → Follows (entry_at read at double) i double
   unfolding entry_at Follows
   entry_of double i e = rw e (refl, refl)
 
@@ -65,11 +65,11 @@ module _ (read : ℕ → ℕ) (at : ℕ) where
   jump-entry double e f = rw (decoded false, eq-eqb w 4 e, eq-eqb (jump_bits (read (wrap_add at 1))) 3 f)
 
   -- only a stack read is unspecified under D and known without it
-  is-stacked : (double : Bool) (i : Instr) → decode_at read at double ≡ Unspecified → decode_at read at false ≡ Known i → (double ≡ true) × (stacked ≡ true)
+  is-stacked : (double : Bool) (i : Instr) → decode_at read at double ≡ None → decode_at read at false ≡ Some i → (double ≡ true) × (stacked ≡ true)
   is-stacked double i e f = go (eqb w 4) ends stacked double (sym (decoded double) ∙ e) (sym (decoded false) ∙ f)
     where
-      go : (j b s d : Bool) → cond (cond j b (d && s)) Unspecified (Known (instruction_of w)) ≡ Unspecified
-          → cond (cond j b (false && s)) Unspecified (Known (instruction_of w)) ≡ Known i → (d ≡ true) × (s ≡ true)
+      go : (j b s d : Bool) → cond (cond j b (d && s)) None (Some (instruction_of w)) ≡ None
+          → cond (cond j b (false && s)) None (Some (instruction_of w)) ≡ Some i → (d ≡ true) × (s ≡ true)
       go true true s d e f = known-one f
       go true false s d e f = known-one (sym e)
       go false b true true e f = (refl, refl)
@@ -107,7 +107,7 @@ stack-alike w h e =
           (both_right (eqb (row_of (instruction_of w) true).words (row_of (instruction_of w) false).words) (same_bool (row_of (instruction_of w) true).double (row_of (instruction_of w) false).double) t),
     )
 
-stack-entry : (read : ℕ → ℕ) (at : ℕ) (double : Bool) (i : Instr) → decode_at read at double ≡ Unspecified → decode_at read at false ≡ Known i
+stack-entry : (read : ℕ → ℕ) (at : ℕ) (double : Bool) (i : Instr) → decode_at read at double ≡ None → decode_at read at false ≡ Some i
     → entry_at read at double ≡ entry_at read at false
 unfolding entry_at
 stack-entry read at double i e f =

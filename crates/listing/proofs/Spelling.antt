@@ -1,5 +1,6 @@
 -- The rows of the code's table spell document 01's lines. A line is compared with its row's template while the operand's digits are still the
 -- letters w x y z; then the digits are put in on both sides.
+use Rattle.std.proofs.Common.{Some}
 use Prim.Native.Nat.{ℕ, zero, suc, ◌+◌, ◌*◌, ◌/◌, ◌%◌, ◌<◌, ◌≤◌}
 use Prim.Native.Char.{code}
 use Prim.Native.String.{String}
@@ -15,7 +16,6 @@ use Rattle.word.specs.Word.{wrap_add, bit}
 use Rattle.word.proofs.Choice.{cond_both}
 use Rattle.decode.specs.declared.Instr.{Instr}
 use Rattle.decode.specs.declared.Instr.TheVariants.{Hlt, Control, Jump, Single, Gswd, Nop, Sin, Shift, Register, Branch, Store, Read}
-use Rattle.decode.specs.declared.Decoded.TheVariants.{Known}
 use Rattle.decode.specs.Fields.{Mode, direct, through, rising, stack, immediate, mode_of, is_backward, is_external, is_negated, input_number, condition_number, Return, no_return, return_in, return_of, jump_target, jump_bits, opcode_of}
 use Rattle.decode.specs.Decode.{control_instruction, status_instruction, low_instruction, instruction_of, is_unspecified, decode_at}
 use Rattle.decode.specs.Rows.{interruptible_entry, jump_entry, row_of}
@@ -262,7 +262,7 @@ module _ (a b : ℕ) (f : eqb (jump_bits a) 3 ≡ false) where
       go true = goes-spells
       go false = calls-spells
 
-  jump-shown : (double : Bool) → shown (record { line = jump_line a b; words = 3; double = false }) ≡ entry_of (Known (instruction_of 4)) double a b
+  jump-shown : (double : Bool) → shown (record { line = jump_line a b; words = 3; double = false }) ≡ entry_of (Some (instruction_of 4)) double a b
   unfolding instruction_of low_instruction control_instruction jump_entry interruptible_entry
   jump-shown double = λ i. record { text = jump-spells i; words = 3; double = false }
 
@@ -270,7 +270,7 @@ pub decle : text_of (line_with 85 0 0 0) ≡ decle_entry.text
 unfolding text_of glyph_of template_of rows
 decle = refl
 
-plain-shown : (w a b : ℕ) (double : Bool) → w < 1024 → eqb w 4 ≡ false → shown (row_entry w a b double) ≡ entry_of (Known (instruction_of w)) double a b
+plain-shown : (w a b : ℕ) (double : Bool) → w < 1024 → eqb w 4 ≡ false → shown (row_entry w a b double) ≡ entry_of (Some (instruction_of w)) double a b
 unfolding row_entry_for
 plain-shown w a b double h e =
     let n = (row_of (instruction_of w) double).words in
@@ -293,7 +293,7 @@ rows-spell-lines read at double = ap shown (entry-with read at double) ∙ go (e
 
     go : (p : Bool) → eqb w 4 ≡ p → (q : Bool) → eqb (jump_bits a) 3 ≡ q → shown (entry_with w a b double) ≡ entry_at read at double
     go true e true f = rw (e, f) (λ i. record { text = decle i; words = 1; double = false })
-    go true e false f = rw (e, f) (jump-shown a b f double ∙ ap (λ (n : ℕ). entry_of (Known (instruction_of n)) double a b) (sym (eqb-true w 4 e)))
+    go true e false f = rw (e, f) (jump-shown a b f double ∙ ap (λ (n : ℕ). entry_of (Some (instruction_of n)) double a b) (sym (eqb-true w 4 e)))
     go false e q f = rw e (plain-shown w a b double (omega arith) e)
 
 pub text_is : (read : ℕ → ℕ) (at : ℕ) (double : Bool) → row_text_at read at double ≡ text_at read at double

@@ -1,18 +1,17 @@
 -- Document 01, "Listing lines": "The lister takes an address and D, answers text length, words used and next D". The memory is a reader,
 -- from an address to the word there.
-use Rattle.std.specs.Prelude.{ℕ, Bool, false, cond, List, ◌++◌, ltb, length, drop}
+use Rattle.std.specs.Prelude.{ℕ, Bool, false, cond, List, ◌++◌, ltb, length, drop, Result, Option, None, Some}
 use Rattle.refusal.specs.declared.Refusal.{Refusal}
 use Rattle.refusal.specs.declared.Refusal.TheVariants.{TextRoomTooSmall}
 use Rattle.refusal.specs.Refusals.{refusal_number}
 use Rattle.refusal.specs.Report.{Report, refused}
 use Rattle.word.specs.Word.{wrap_add}
 use Rattle.memory.specs.Bus.{Bus, read_of, admission_of, unless_barred}
-use Rattle.decode.specs.declared.Decoded.{Decoded}
-use Rattle.decode.specs.declared.Decoded.TheVariants.{Unspecified, Known}
+use Rattle.decode.specs.declared.Instr.{Instr}
 use Rattle.decode.specs.Decode.{decode_at}
 use Rattle.decode.specs.Rows.{row_of}
 use Rattle.text.specs.Text.{codes, hex_of}
-use Rattle.listing.specs.declared.Listing.{Listing}
+use Rattle.listing.specs.declared.Listed.{Listed}
 use Rattle.listing.specs.Answer.{ListedLine, listed_line, listing_reported}
 use Rattle.listing.specs.Line.{line_of, line_operand}
 
@@ -27,9 +26,9 @@ abbrev pub decle_entry : Entry
 decle_entry = record { text = codes "DECLE $0004"; words = 1; double = false }
 
 -- the entry of what is decoded, with the words a and b after the opcode: words used and next D are the row table's
-abbrev pub entry_of : Decoded → Bool → ℕ → ℕ → Entry
-entry_of Unspecified double a b = decle_entry
-entry_of (Known i) double a b =
+abbrev pub entry_of : Option Instr → Bool → ℕ → ℕ → Entry
+entry_of None double a b = decle_entry
+entry_of (Some i) double a b =
     record {
       text = line_of i (hex_of (line_operand (row_of i double).words a b)) a b;
       words = (row_of i double).words;
@@ -70,5 +69,5 @@ disassemble_of b at double room =
     (listed_disassembly room (entry_at (read_of b) at double)))
 
 -- what the code's answer and the room at its return stand for: the contract says that it is `disassemble_of`
-abbrev pub disassembly : Listing → List ℕ → Disassembly
+abbrev pub disassembly : Result Listed Refusal → List ℕ → Disassembly
 disassembly x room = record { answer = listing_reported x; room = room }

@@ -1,12 +1,11 @@
 -- What holds of listing and assembling together. Each law is stated here; `proofs/RoundTrip` proves (a), (c), (d) and (f), `proofs/Itself`
 -- (b), `proofs/RowTable` (e), and `proofs/Bounds` the last.
-use Rattle.std.specs.Prelude.{ℕ, ◌<◌, ◌≤◌, ◌≡◌, Bool, true, false, List, length, get_or}
+use Rattle.std.specs.Prelude.{ℕ, ◌<◌, ◌≤◌, ◌≡◌, Bool, true, false, List, length, get_or, None, Some}
 use Rattle.word.specs.Word.{wrap_add}
 use Rattle.memory.specs.Bus.{Bus, bus_of, read_of}
 use Rattle.memory.specs.Laws.{BusWords}
 use Rattle.decode.specs.declared.Instr.{Instr}
 use Rattle.decode.specs.declared.Instr.TheVariants.{Read}
-use Rattle.decode.specs.declared.Decoded.TheVariants.{Unspecified, Known}
 use Rattle.decode.specs.Fields.{opcode_of, jump_bits}
 use Rattle.decode.specs.Decode.{instruction_of, decode_at}
 use Rattle.decode.specs.Rows.{row_of}
@@ -69,7 +68,7 @@ SameLineSameWords =
 pub record FollowsRowTable (read : ℕ → ℕ) (at : ℕ) (double : Bool) : Type 0 where
   pub known :
       (i : Instr) →
-      decode_at read at double ≡ Known i →
+      decode_at read at double ≡ Some i →
       ((entry_at read at double).words ≡ (row_of i double).words) × ((entry_at read at double).double ≡ (row_of i double).double)
   pub jump_bits_back :
       opcode_of (read at) ≡ 0x004 →
@@ -77,8 +76,8 @@ pub record FollowsRowTable (read : ℕ → ℕ) (at : ℕ) (double : Bool) : Typ
       entry_at read at double ≡ record { text = codes "DECLE $0004"; words = 1; double = false }
   pub stack :
       (i : Instr) →
-      decode_at read at double ≡ Unspecified →
-      decode_at read at false ≡ Known i →
+      decode_at read at double ≡ None →
+      decode_at read at false ≡ Some i →
       entry_at read at double ≡ entry_at read at false
 
 abbrev pub EveryRowFollows : Type 0

@@ -5,6 +5,8 @@
 ghost use Rattle.std.specs.Prelude.{◌≡◌, ◌≤◌};
 ghost use Rattle.listing.specs.Inner.Guess.{told, memory_names, operation_names, two_forms, carry_names, a_names, be_names, bn_names, b_names, c_names, d_names, jsr_names, j_names, m_names, n_names, r_names, s_names, names, guess_of};
 
+use crate::rows::names::*;
+
 // What tells a line's row. The fourth byte counts where the line is longer: in a shorter one a digit may stand there.
 #[derive(Clone, Copy)]
 pub(crate) struct Start {
@@ -23,8 +25,7 @@ fn memory_row(direct: usize, start: Start) -> usize
     requires { direct ≤ 85 }
     ensures { result ≡ told (memory_names direct) start }
 {
-    let fourth = start.fourth;
-    match fourth {
+    match start.fourth {
         b' ' => direct,
         b'@' => direct + 1,
         _ => direct + 2,
@@ -36,8 +37,7 @@ fn operation_row(register: usize, direct: usize, start: Start) -> usize
     requires { direct ≤ 85 }
     ensures { result ≡ told (operation_names register direct) start }
 {
-    let between = start.fourth == b'R';
-    if between {
+    if start.fourth == b'R' {
         register
     } else {
         memory_row(direct, start)
@@ -49,8 +49,11 @@ fn two_forms(length: usize, shorter: usize, start: Start) -> usize
     requires { shorter ≤ 85 }
     ensures { result ≡ told (two_forms length shorter) start }
 {
-    let short = start.length == length;
-    if short { shorter } else { shorter + 1 }
+    if start.length == length {
+        shorter
+    } else {
+        shorter + 1
+    }
 }
 
 // A shift by one place and by two, and the shift through C that has its name with a C behind it.
@@ -58,8 +61,7 @@ fn carry_row(once: usize, start: Start) -> usize
     requires { once ≤ 85 }
     ensures { result ≡ told (carry_names once) start }
 {
-    let length = start.length;
-    match length {
+    match start.length {
         6 => once,
         8 => once + 1,
         7 => once + 4,
@@ -71,128 +73,93 @@ fn carry_row(once: usize, start: Start) -> usize
 fn a_row(start: Start) -> usize
     ensures { result ≡ told a_names start }
 {
-    // ANDR, AND, AND@, ANDI
-    let and = start.second == b'N';
-    if and {
-        return operation_row(38, 73, start);
-    }
-    // ADCR; ADDR, ADD, ADD@, ADDI
-    let adcr = start.third == b'C';
-    if adcr {
-        11
+    if start.second == b'N' {
+        // ANDR, AND, AND@, ANDI
+        operation_row(ANDR, AND, start)
+    } else if start.third == b'C' {
+        ADCR
     } else {
-        operation_row(35, 64, start)
+        // ADDR, ADD, ADD@, ADDI
+        operation_row(ADDR, ADD, start)
     }
 }
 
 fn be_row(start: Start) -> usize
     ensures { result ≡ told be_names start }
 {
-    let third = start.third;
-    match third {
-        // BEQ
-        b'Q' => 44,
-        // BESC
-        b'S' => 55,
+    match start.third {
+        b'Q' => BEQ,
+        b'S' => BESC,
         // BEXT, whose number has one digit or two
-        _ => two_forms(13, 56, start),
+        _ => two_forms(13, BEXT, start),
     }
 }
 
 fn bn_row(start: Start) -> usize
     ensures { result ≡ told bn_names start }
 {
-    let third = start.third;
-    match third {
-        // BNC
-        b'C' => 49,
-        // BNOV
-        b'O' => 50,
-        // BNEQ
-        _ => 52,
+    match start.third {
+        b'C' => BNC,
+        b'O' => BNOV,
+        _ => BNEQ,
     }
 }
 
 fn b_row(start: Start) -> usize
     ensures { result ≡ told b_names start }
 {
-    let second = start.second;
-    let third = start.third;
-    match second {
-        // B
-        b' ' => 40,
-        // BC
-        b'C' => 41,
-        // BOV
-        b'O' => 42,
-        // BPL
-        b'P' => 43,
+    match start.second {
+        b' ' => B,
+        b'C' => BC,
+        b'O' => BOV,
+        b'P' => BPL,
         b'E' => be_row(start),
-        // BLT, BLE
-        b'L' => if third == b'T' { 45 } else { 46 },
-        // BUSC
-        b'U' => 47,
+        b'L' => if start.third == b'T' { BLT } else { BLE },
+        b'U' => BUSC,
         b'N' => bn_row(start),
-        // BMI
-        b'M' => 51,
-        // BGE, BGT
-        _ => if third == b'E' { 53 } else { 54 },
+        b'M' => BMI,
+        _ => if start.third == b'E' { BGE } else { BGT },
     }
 }
 
 fn c_row(start: Start) -> usize
     ensures { result ≡ told c_names start }
 {
-    let second = start.second;
-    match second {
+    match start.second {
         // CMPR, CMP, CMP@, CMPI
-        b'M' => operation_row(37, 70, start),
-        // COMR
-        b'O' => 9,
-        // CLRC
-        _ => 5,
+        b'M' => operation_row(CMPR, CMP, start),
+        b'O' => COMR,
+        _ => CLRC,
     }
 }
 
 fn d_row(start: Start) -> usize
     ensures { result ≡ told d_names start }
 {
-    let length = start.length;
-    match length {
-        // DIS
-        3 => 3,
-        // DECR
-        7 => 8,
-        // DECLE
-        _ => 85,
+    match start.length {
+        3 => DIS,
+        7 => DECR,
+        _ => DECLE,
     }
 }
 
 fn call_row(start: Start) -> usize
     ensures { result ≡ told jsr_names start }
 {
-    let fourth = start.fourth;
-    match fourth {
-        // JSR
-        b' ' => 82,
-        // JSRE
-        b'E' => 83,
-        // JSRD
-        _ => 84,
+    match start.fourth {
+        b' ' => JSR,
+        b'E' => JSRE,
+        _ => JSRD,
     }
 }
 
 fn j_row(start: Start) -> usize
     ensures { result ≡ told j_names start }
 {
-    let second = start.second;
-    match second {
-        // J
-        b' ' => 79,
-        // JE
-        b'E' => 80,
-        // JD
-        b'D' => 81,
+    match start.second {
+        b' ' => J,
+        b'E' => JE,
+        b'D' => JD,
         _ => call_row(start),
     }
 }
@@ -200,71 +167,59 @@ fn j_row(start: Start) -> usize
 fn m_row(start: Start) -> usize
     ensures { result ≡ told m_names start }
 {
-    let third = start.third;
-    match third {
-        // MOVR
-        b'V' => 34,
+    match start.third {
+        b'V' => MOVR,
         // MVO, MVO@, MVOI
-        b'O' => memory_row(58, start),
+        b'O' => memory_row(MVO, start),
         // MVI, MVI@, MVII
-        _ => memory_row(61, start),
+        _ => memory_row(MVI, start),
     }
 }
 
 fn n_row(start: Start) -> usize
     ensures { result ≡ told n_names start }
 {
-    let length = start.length;
-    match length {
-        // NOP
-        3 => 14,
+    match start.length {
+        3 => NOP,
         // NOP 2
-        5 => 15,
-        // NEGR
-        7 => 10,
-        // NOPP
-        _ => 48,
+        5 => NOP + 1,
+        7 => NEGR,
+        _ => NOPP,
     }
 }
 
 fn r_row(start: Start) -> usize
     ensures { result ≡ told r_names start }
 {
-    let second = start.second;
-    match second {
-        // RSWD
-        b'S' => 13,
+    match start.second {
+        b'S' => RSWD,
         // RLC
-        b'L' => two_forms(6, 22, start),
+        b'L' => two_forms(6, RLC, start),
         // RRC
-        _ => two_forms(6, 30, start),
+        _ => two_forms(6, RRC, start),
     }
 }
 
 fn s_row(start: Start) -> usize
     ensures { result ≡ told s_names start }
 {
-    let second = start.second;
-    let third = start.third;
-    match second {
+    match start.second {
         // SUBR, SUB, SUB@, SUBI
-        b'U' => operation_row(36, 67, start),
+        b'U' => operation_row(SUBR, SUB, start),
         // SLR; SLL, SLLC
-        b'L' => if third == b'R' {
-            two_forms(6, 26, start)
+        b'L' => if start.third == b'R' {
+            two_forms(6, SLR, start)
         } else {
-            carry_row(20, start)
+            carry_row(SLL, start)
         },
         // SAR, SARC
-        b'A' => carry_row(28, start),
+        b'A' => carry_row(SAR, start),
         // SWAP
-        b'W' => two_forms(7, 18, start),
+        b'W' => two_forms(7, SWAP, start),
         // SIN
-        b'I' => two_forms(3, 16, start),
-        // SDBD
-        b'D' => 1,
-        // SETC
-        _ => 6,
+        b'I' => two_forms(3, SIN, start),
+        b'D' => SDBD,
+        _ => SETC,
     }
 }
 
@@ -272,29 +227,23 @@ fn s_row(start: Start) -> usize
 fn row_told(start: Start) -> usize
     ensures { result ≡ told names start }
 {
-    let first = start.first;
-    match first {
+    match start.first {
         b'A' => a_row(start),
         b'B' => b_row(start),
         b'C' => c_row(start),
         b'D' => d_row(start),
-        // EIS
-        b'E' => 2,
-        // GSWD
-        b'G' => 12,
-        // HLT
-        b'H' => 0,
-        // INCR
-        b'I' => 7,
+        b'E' => EIS,
+        b'G' => GSWD,
+        b'H' => HLT,
+        b'I' => INCR,
         b'J' => j_row(start),
         b'M' => m_row(start),
         b'N' => n_row(start),
         b'R' => r_row(start),
         b'S' => s_row(start),
-        // TCI
-        b'T' => 4,
+        b'T' => TCI,
         // XORR, XOR, XOR@, XORI
-        _ => operation_row(39, 76, start),
+        _ => operation_row(XORR, XOR, start),
     }
 }
 
@@ -302,16 +251,16 @@ fn row_told(start: Start) -> usize
 pub(crate) fn guess_row(text: &[u8]) -> usize
     ensures { result ≡ guess_of text.now }
 {
+    let [first, second, third, ..] = *text else {
+        return HLT;
+    };
     let length = text.len();
-    if length < 3 {
-        return 0;
-    }
     let fourth = if length < LONGER { b' ' } else { text[3] };
     row_told(Start {
-        length: length,
-        first: text[0],
-        second: text[1],
-        third: text[2],
-        fourth: fourth,
+        length,
+        first,
+        second,
+        third,
+        fourth,
     })
 }

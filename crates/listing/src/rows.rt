@@ -1,183 +1,181 @@
-// The table of listing lines: one row for each name and form of its operands, with its opcode where s and d are 0. Both directions read it.
+// The table of listing lines: one row for each name and form of its operands. Both directions read it.
 ghost use Rattle.std.specs.Prelude.{◌≡◌, ◌<◌};
-ghost use Rattle.listing.specs.Inner.Rows.{base_of};
-ghost use Rattle.listing.specs.Inner.Table.{padded_of, row_among, ends_at};
+ghost use Rattle.listing.specs.Inner.Rows.{template_of, base_of};
 
-// The bytes of a row's template, and what fills it up behind a shorter line: a byte past the small letters, as literals stand before
-// them, so that a loop over a template asks for its end only where the symbol is no literal.
-pub(crate) const WIDTH: usize = 14;
-
-pub(crate) const END: u8 = b'~';
-
+// A row's line, and its opcode where s and d are 0. In a template a small letter stands for a digit of s, d or the operand (w x y z), and
+// g for the sign of a branch.
 #[derive(Clone, Copy)]
-pub(crate) struct TableRow {
-    pub template: [u8; 14],
-    pub base: u16,
+struct TableRow {
+    template: &'static [u8],
+    base: u16,
 }
 
-// Four rows a constant: one that is handed on by value is built only where it is used, so a line costs one of these and not the
-// whole table. A small letter stands for a digit of s, d or the operand (w x y z), and g for the sign of a branch.
-const ROWS_0: [u8; 56] = *b"HLT~~~~~~~~~~~SDBD~~~~~~~~~~EIS~~~~~~~~~~~DIS~~~~~~~~~~~";
+#[rattlefmt::skip]
+static ROWS: [TableRow; 86] = [
+    TableRow { template: b"HLT", base: 0x000 },
+    TableRow { template: b"SDBD", base: 0x001 },
+    TableRow { template: b"EIS", base: 0x002 },
+    TableRow { template: b"DIS", base: 0x003 },
+    TableRow { template: b"TCI", base: 0x005 },
+    TableRow { template: b"CLRC", base: 0x006 },
+    TableRow { template: b"SETC", base: 0x007 },
+    TableRow { template: b"INCR Rd", base: 0x008 },
+    TableRow { template: b"DECR Rd", base: 0x010 },
+    TableRow { template: b"COMR Rd", base: 0x018 },
+    TableRow { template: b"NEGR Rd", base: 0x020 },
+    TableRow { template: b"ADCR Rd", base: 0x028 },
+    TableRow { template: b"GSWD Rd", base: 0x030 },
+    TableRow { template: b"RSWD Rd", base: 0x038 },
+    TableRow { template: b"NOP", base: 0x034 },
+    TableRow { template: b"NOP 2", base: 0x035 },
+    TableRow { template: b"SIN", base: 0x036 },
+    TableRow { template: b"SIN 2", base: 0x037 },
+    TableRow { template: b"SWAP Rd", base: 0x040 },
+    TableRow { template: b"SWAP Rd,2", base: 0x044 },
+    TableRow { template: b"SLL Rd", base: 0x048 },
+    TableRow { template: b"SLL Rd,2", base: 0x04C },
+    TableRow { template: b"RLC Rd", base: 0x050 },
+    TableRow { template: b"RLC Rd,2", base: 0x054 },
+    TableRow { template: b"SLLC Rd", base: 0x058 },
+    TableRow { template: b"SLLC Rd,2", base: 0x05C },
+    TableRow { template: b"SLR Rd", base: 0x060 },
+    TableRow { template: b"SLR Rd,2", base: 0x064 },
+    TableRow { template: b"SAR Rd", base: 0x068 },
+    TableRow { template: b"SAR Rd,2", base: 0x06C },
+    TableRow { template: b"RRC Rd", base: 0x070 },
+    TableRow { template: b"RRC Rd,2", base: 0x074 },
+    TableRow { template: b"SARC Rd", base: 0x078 },
+    TableRow { template: b"SARC Rd,2", base: 0x07C },
+    TableRow { template: b"MOVR Rs,Rd", base: 0x080 },
+    TableRow { template: b"ADDR Rs,Rd", base: 0x0C0 },
+    TableRow { template: b"SUBR Rs,Rd", base: 0x100 },
+    TableRow { template: b"CMPR Rs,Rd", base: 0x140 },
+    TableRow { template: b"ANDR Rs,Rd", base: 0x180 },
+    TableRow { template: b"XORR Rs,Rd", base: 0x1C0 },
+    TableRow { template: b"B g$wxyz", base: 0x200 },
+    TableRow { template: b"BC g$wxyz", base: 0x201 },
+    TableRow { template: b"BOV g$wxyz", base: 0x202 },
+    TableRow { template: b"BPL g$wxyz", base: 0x203 },
+    TableRow { template: b"BEQ g$wxyz", base: 0x204 },
+    TableRow { template: b"BLT g$wxyz", base: 0x205 },
+    TableRow { template: b"BLE g$wxyz", base: 0x206 },
+    TableRow { template: b"BUSC g$wxyz", base: 0x207 },
+    TableRow { template: b"NOPP g$wxyz", base: 0x208 },
+    TableRow { template: b"BNC g$wxyz", base: 0x209 },
+    TableRow { template: b"BNOV g$wxyz", base: 0x20A },
+    TableRow { template: b"BMI g$wxyz", base: 0x20B },
+    TableRow { template: b"BNEQ g$wxyz", base: 0x20C },
+    TableRow { template: b"BGE g$wxyz", base: 0x20D },
+    TableRow { template: b"BGT g$wxyz", base: 0x20E },
+    TableRow { template: b"BESC g$wxyz", base: 0x20F },
+    TableRow { template: b"BEXT d,g$wxyz", base: 0x210 },
+    TableRow { template: b"BEXT 1d,g$wxyz", base: 0x21A },
+    TableRow { template: b"MVO Rd,$wxyz", base: 0x240 },
+    TableRow { template: b"MVO@ Rd,Rs", base: 0x240 },
+    TableRow { template: b"MVOI Rd,#$wxyz", base: 0x278 },
+    TableRow { template: b"MVI $wxyz,Rd", base: 0x280 },
+    TableRow { template: b"MVI@ Rs,Rd", base: 0x280 },
+    TableRow { template: b"MVII #$wxyz,Rd", base: 0x2B8 },
+    TableRow { template: b"ADD $wxyz,Rd", base: 0x2C0 },
+    TableRow { template: b"ADD@ Rs,Rd", base: 0x2C0 },
+    TableRow { template: b"ADDI #$wxyz,Rd", base: 0x2F8 },
+    TableRow { template: b"SUB $wxyz,Rd", base: 0x300 },
+    TableRow { template: b"SUB@ Rs,Rd", base: 0x300 },
+    TableRow { template: b"SUBI #$wxyz,Rd", base: 0x338 },
+    TableRow { template: b"CMP $wxyz,Rd", base: 0x340 },
+    TableRow { template: b"CMP@ Rs,Rd", base: 0x340 },
+    TableRow { template: b"CMPI #$wxyz,Rd", base: 0x378 },
+    TableRow { template: b"AND $wxyz,Rd", base: 0x380 },
+    TableRow { template: b"AND@ Rs,Rd", base: 0x380 },
+    TableRow { template: b"ANDI #$wxyz,Rd", base: 0x3B8 },
+    TableRow { template: b"XOR $wxyz,Rd", base: 0x3C0 },
+    TableRow { template: b"XOR@ Rs,Rd", base: 0x3C0 },
+    TableRow { template: b"XORI #$wxyz,Rd", base: 0x3F8 },
+    TableRow { template: b"J $wxyz", base: 0x004 },
+    TableRow { template: b"JE $wxyz", base: 0x004 },
+    TableRow { template: b"JD $wxyz", base: 0x004 },
+    TableRow { template: b"JSR Rd,$wxyz", base: 0x004 },
+    TableRow { template: b"JSRE Rd,$wxyz", base: 0x004 },
+    TableRow { template: b"JSRD Rd,$wxyz", base: 0x004 },
+    TableRow { template: b"DECLE $0004", base: 0x004 },
+];
 
-const BASES_0: [u16; 4] = [0x000, 0x001, 0x002, 0x003];
-
-const ROWS_1: [u8; 56] = *b"TCI~~~~~~~~~~~CLRC~~~~~~~~~~SETC~~~~~~~~~~INCR Rd~~~~~~~";
-
-const BASES_1: [u16; 4] = [0x005, 0x006, 0x007, 0x008];
-
-const ROWS_2: [u8; 56] = *b"DECR Rd~~~~~~~COMR Rd~~~~~~~NEGR Rd~~~~~~~ADCR Rd~~~~~~~";
-
-const BASES_2: [u16; 4] = [0x010, 0x018, 0x020, 0x028];
-
-const ROWS_3: [u8; 56] = *b"GSWD Rd~~~~~~~RSWD Rd~~~~~~~NOP~~~~~~~~~~~NOP 2~~~~~~~~~";
-
-const BASES_3: [u16; 4] = [0x030, 0x038, 0x034, 0x035];
-
-const ROWS_4: [u8; 56] = *b"SIN~~~~~~~~~~~SIN 2~~~~~~~~~SWAP Rd~~~~~~~SWAP Rd,2~~~~~";
-
-const BASES_4: [u16; 4] = [0x036, 0x037, 0x040, 0x044];
-
-const ROWS_5: [u8; 56] = *b"SLL Rd~~~~~~~~SLL Rd,2~~~~~~RLC Rd~~~~~~~~RLC Rd,2~~~~~~";
-
-const BASES_5: [u16; 4] = [0x048, 0x04C, 0x050, 0x054];
-
-const ROWS_6: [u8; 56] = *b"SLLC Rd~~~~~~~SLLC Rd,2~~~~~SLR Rd~~~~~~~~SLR Rd,2~~~~~~";
-
-const BASES_6: [u16; 4] = [0x058, 0x05C, 0x060, 0x064];
-
-const ROWS_7: [u8; 56] = *b"SAR Rd~~~~~~~~SAR Rd,2~~~~~~RRC Rd~~~~~~~~RRC Rd,2~~~~~~";
-
-const BASES_7: [u16; 4] = [0x068, 0x06C, 0x070, 0x074];
-
-const ROWS_8: [u8; 56] = *b"SARC Rd~~~~~~~SARC Rd,2~~~~~MOVR Rs,Rd~~~~ADDR Rs,Rd~~~~";
-
-const BASES_8: [u16; 4] = [0x078, 0x07C, 0x080, 0x0C0];
-
-const ROWS_9: [u8; 56] = *b"SUBR Rs,Rd~~~~CMPR Rs,Rd~~~~ANDR Rs,Rd~~~~XORR Rs,Rd~~~~";
-
-const BASES_9: [u16; 4] = [0x100, 0x140, 0x180, 0x1C0];
-
-const ROWS_10: [u8; 56] = *b"B g$wxyz~~~~~~BC g$wxyz~~~~~BOV g$wxyz~~~~BPL g$wxyz~~~~";
-
-const BASES_10: [u16; 4] = [0x200, 0x201, 0x202, 0x203];
-
-const ROWS_11: [u8; 56] = *b"BEQ g$wxyz~~~~BLT g$wxyz~~~~BLE g$wxyz~~~~BUSC g$wxyz~~~";
-
-const BASES_11: [u16; 4] = [0x204, 0x205, 0x206, 0x207];
-
-const ROWS_12: [u8; 56] = *b"NOPP g$wxyz~~~BNC g$wxyz~~~~BNOV g$wxyz~~~BMI g$wxyz~~~~";
-
-const BASES_12: [u16; 4] = [0x208, 0x209, 0x20A, 0x20B];
-
-const ROWS_13: [u8; 56] = *b"BNEQ g$wxyz~~~BGE g$wxyz~~~~BGT g$wxyz~~~~BESC g$wxyz~~~";
-
-const BASES_13: [u16; 4] = [0x20C, 0x20D, 0x20E, 0x20F];
-
-const ROWS_14: [u8; 56] = *b"BEXT d,g$wxyz~BEXT 1d,g$wxyzMVO Rd,$wxyz~~MVO@ Rd,Rs~~~~";
-
-const BASES_14: [u16; 4] = [0x210, 0x21A, 0x240, 0x240];
-
-const ROWS_15: [u8; 56] = *b"MVOI Rd,#$wxyzMVI $wxyz,Rd~~MVI@ Rs,Rd~~~~MVII #$wxyz,Rd";
-
-const BASES_15: [u16; 4] = [0x278, 0x280, 0x280, 0x2B8];
-
-const ROWS_16: [u8; 56] = *b"ADD $wxyz,Rd~~ADD@ Rs,Rd~~~~ADDI #$wxyz,RdSUB $wxyz,Rd~~";
-
-const BASES_16: [u16; 4] = [0x2C0, 0x2C0, 0x2F8, 0x300];
-
-const ROWS_17: [u8; 56] = *b"SUB@ Rs,Rd~~~~SUBI #$wxyz,RdCMP $wxyz,Rd~~CMP@ Rs,Rd~~~~";
-
-const BASES_17: [u16; 4] = [0x300, 0x338, 0x340, 0x340];
-
-const ROWS_18: [u8; 56] = *b"CMPI #$wxyz,RdAND $wxyz,Rd~~AND@ Rs,Rd~~~~ANDI #$wxyz,Rd";
-
-const BASES_18: [u16; 4] = [0x378, 0x380, 0x380, 0x3B8];
-
-const ROWS_19: [u8; 56] = *b"XOR $wxyz,Rd~~XOR@ Rs,Rd~~~~XORI #$wxyz,RdJ $wxyz~~~~~~~";
-
-const BASES_19: [u16; 4] = [0x3C0, 0x3C0, 0x3F8, 0x004];
-
-const ROWS_20: [u8; 56] = *b"JE $wxyz~~~~~~JD $wxyz~~~~~~JSR Rd,$wxyz~~JSRE Rd,$wxyz~";
-
-const BASES_20: [u16; 4] = [0x004, 0x004, 0x004, 0x004];
-
-const ROWS_21: [u8; 56] = *b"JSRD Rd,$wxyz~DECLE $0004~~~~~~~~~~~~~~~~~~~~~~~~~~~~~~~";
-
-const BASES_21: [u16; 4] = [0x004, 0x004, 0x000, 0x000];
-
-fn one_of(templates: [u8; 56], bases: [u16; 4], k: usize) -> TableRow
-    requires { k < 4 }
-    ensures { result ≡ row_among templates bases k }
-{
-    let i = k * WIDTH;
-    let template = [
-        templates[i],
-        templates[i + 1],
-        templates[i + 2],
-        templates[i + 3],
-        templates[i + 4],
-        templates[i + 5],
-        templates[i + 6],
-        templates[i + 7],
-        templates[i + 8],
-        templates[i + 9],
-        templates[i + 10],
-        templates[i + 11],
-        templates[i + 12],
-        templates[i + 13],
-    ];
-    TableRow {
-        template: template,
-        base: bases[k],
-    }
+// The rows that code names, by their places in the table. A name that has more rows stands for the first of them: a shift's for that by one
+// place, NOP and SIN for that without a number, BEXT for that of one digit, MVO and the reads for the direct one, which has the one through
+// a register and the immediate one behind it.
+#[rattlefmt::skip]
+pub(crate) mod names {
+    pub(crate) const HLT: usize = 0;
+    pub(crate) const SDBD: usize = 1;
+    pub(crate) const EIS: usize = 2;
+    pub(crate) const DIS: usize = 3;
+    pub(crate) const TCI: usize = 4;
+    pub(crate) const CLRC: usize = 5;
+    pub(crate) const SETC: usize = 6;
+    pub(crate) const INCR: usize = 7;
+    pub(crate) const DECR: usize = 8;
+    pub(crate) const COMR: usize = 9;
+    pub(crate) const NEGR: usize = 10;
+    pub(crate) const ADCR: usize = 11;
+    pub(crate) const GSWD: usize = 12;
+    pub(crate) const RSWD: usize = 13;
+    pub(crate) const NOP: usize = 14;
+    pub(crate) const SIN: usize = 16;
+    pub(crate) const SWAP: usize = 18;
+    pub(crate) const SLL: usize = 20;
+    pub(crate) const RLC: usize = 22;
+    pub(crate) const SLR: usize = 26;
+    pub(crate) const SAR: usize = 28;
+    pub(crate) const RRC: usize = 30;
+    pub(crate) const MOVR: usize = 34;
+    pub(crate) const ADDR: usize = 35;
+    pub(crate) const SUBR: usize = 36;
+    pub(crate) const CMPR: usize = 37;
+    pub(crate) const ANDR: usize = 38;
+    pub(crate) const XORR: usize = 39;
+    pub(crate) const B: usize = 40;
+    pub(crate) const BC: usize = 41;
+    pub(crate) const BOV: usize = 42;
+    pub(crate) const BPL: usize = 43;
+    pub(crate) const BEQ: usize = 44;
+    pub(crate) const BLT: usize = 45;
+    pub(crate) const BLE: usize = 46;
+    pub(crate) const BUSC: usize = 47;
+    pub(crate) const NOPP: usize = 48;
+    pub(crate) const BNC: usize = 49;
+    pub(crate) const BNOV: usize = 50;
+    pub(crate) const BMI: usize = 51;
+    pub(crate) const BNEQ: usize = 52;
+    pub(crate) const BGE: usize = 53;
+    pub(crate) const BGT: usize = 54;
+    pub(crate) const BESC: usize = 55;
+    pub(crate) const BEXT: usize = 56;
+    pub(crate) const MVO: usize = 58;
+    pub(crate) const MVI: usize = 61;
+    pub(crate) const ADD: usize = 64;
+    pub(crate) const SUB: usize = 67;
+    pub(crate) const CMP: usize = 70;
+    pub(crate) const AND: usize = 73;
+    pub(crate) const XOR: usize = 76;
+    pub(crate) const J: usize = 79;
+    pub(crate) const JE: usize = 80;
+    pub(crate) const JD: usize = 81;
+    pub(crate) const JSR: usize = 82;
+    pub(crate) const JSRE: usize = 83;
+    pub(crate) const JSRD: usize = 84;
+    pub(crate) const DECLE: usize = 85;
 }
 
-pub(crate) fn row_at(row: usize) -> TableRow
+pub(crate) fn template_at(row: usize) -> &'static [u8]
     requires { row < 86 }
-    ensures { (result.template ≡ padded_of row) × (result.base ≡ base_of row) × (result.base < 1024) }
+    ensures { result.now ≡ template_of row }
 {
-    let k = row % 4;
-    match row / 4 {
-        0 => one_of(ROWS_0, BASES_0, k),
-        1 => one_of(ROWS_1, BASES_1, k),
-        2 => one_of(ROWS_2, BASES_2, k),
-        3 => one_of(ROWS_3, BASES_3, k),
-        4 => one_of(ROWS_4, BASES_4, k),
-        5 => one_of(ROWS_5, BASES_5, k),
-        6 => one_of(ROWS_6, BASES_6, k),
-        7 => one_of(ROWS_7, BASES_7, k),
-        8 => one_of(ROWS_8, BASES_8, k),
-        9 => one_of(ROWS_9, BASES_9, k),
-        10 => one_of(ROWS_10, BASES_10, k),
-        11 => one_of(ROWS_11, BASES_11, k),
-        12 => one_of(ROWS_12, BASES_12, k),
-        13 => one_of(ROWS_13, BASES_13, k),
-        14 => one_of(ROWS_14, BASES_14, k),
-        15 => one_of(ROWS_15, BASES_15, k),
-        16 => one_of(ROWS_16, BASES_16, k),
-        17 => one_of(ROWS_17, BASES_17, k),
-        18 => one_of(ROWS_18, BASES_18, k),
-        19 => one_of(ROWS_19, BASES_19, k),
-        20 => one_of(ROWS_20, BASES_20, k),
-        _ => one_of(ROWS_21, BASES_21, k),
-    }
+    ROWS[row].template
 }
 
-// Whether the lines of a template's row have n bytes.
-pub(crate) fn has_length(template: &[u8; 14], n: usize) -> bool
-    ensures { result ≡ ends_at template.now n }
+pub(crate) fn base_at(row: usize) -> u16
+    requires { row < 86 }
+    ensures { (result ≡ base_of row) × (result < 1024) }
 {
-    if n == 0 {
-        return false;
-    }
-    if WIDTH < n {
-        return false;
-    }
-    if template[n - 1] == END {
-        return false;
-    }
-    if n == WIDTH {
-        return true;
-    }
-    template[n] == END
+    ROWS[row].base
 }

@@ -1,8 +1,8 @@
 -- The meter under an all-RAM map: refused alike, and where it is let in, it reads alike.
+use Rattle.std.specs.Prelude.{Ok}
 use Prim.Native.Nat.{ℕ}
 use mathlib.Core.Path.{◌≡◌, ap}
 use mathlib.Core.List.{List}
-use Rattle.memory.specs.declared.Admission.TheVariants.{Admitted}
 use Rattle.memory.specs.declared.map.Board.{Board}
 use Rattle.memory.specs.Bus.{bus_of, bus_on, admission_of}
 use Rattle.memory.specs.Laws.{AllRam}
@@ -14,7 +14,7 @@ use Rattle.meter.proofs.RegionLaws.{unless-same, region-in}
 
 module _ (b : Board) (m : List ℕ) (h : AllRam b) where
   -- once let in, each start's walk answers the same
-  answers : (limit : ℕ) → admission_of (bus_of m) ≡ Admitted → answer_from (bus_on b m) limit ≡ answer_from (bus_of m) limit
+  answers : (limit : ℕ) → admission_of (bus_of m) ≡ Ok (tt {0}) → answer_from (bus_on b m) limit ≡ answer_from (bus_of m) limit
   answers limit e = ap (λ (read : ℕ → ℕ). walk_from read (limit_of limit)) (all-ram-laws.reads b m h e)
 
   waits : (a limit : ℕ) → wait_of (bus_on b m) a limit ≡ wait_of (bus_of m) a limit
@@ -27,7 +27,7 @@ module _ (b : Board) (m : List ℕ) (h : AllRam b) where
     unfolding scan_admission
     lets_in = rw (all-ram-laws.admits b m h)
 
-    let-in : scan_admission (bus_of m) first last limit ≡ Admitted → answer_from (bus_on b m) limit ≡ answer_from (bus_of m) limit
+    let-in : scan_admission (bus_of m) first last limit ≡ Ok (tt {0}) → answer_from (bus_on b m) limit ≡ answer_from (bus_of m) limit
     let-in e = answers limit (region-in (bus_of m) first last limit e).admitted
 
     regions : region_of (bus_on b m) first last limit ≡ region_of (bus_of m) first last limit

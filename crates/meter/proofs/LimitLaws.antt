@@ -1,4 +1,6 @@
 -- Laws of limits: at each but 0 the walk is at the limit that is given, at 0 it is at 48, and a higher limit changes no answer but Over.
+use Rattle.std.specs.Prelude.{Option, Some, None, Ok}
+use Rattle.decode.specs.declared.Instr.{Instr}
 use Prim.Native.Nat.{ℕ, zero, suc, ◌+◌, ◌<◌, ◌≤◌}
 use mathlib.Core.Path.{◌≡◌, refl, ap, ◌∙◌, subst}
 use mathlib.Core.Bool.{Bool, true, ◌||◌}
@@ -11,12 +13,9 @@ use Rattle.word.specs.Word.{wrap_add}
 use Rattle.word.proofs.Choice.{cond-false, cond_both, cond_either}
 use Rattle.memory.specs.Memory.{peek_of}
 use Rattle.memory.specs.Map.{bad_map}
-use Rattle.memory.specs.declared.Admission.TheVariants.{Admitted}
 use Rattle.memory.specs.Bus.{Bus, read_of, admission_of}
 use Rattle.memory.proofs.BusLaws.{unless-in}
 use Rattle.bitset.specs.Bits.{is_wrong_length, contains}
-use Rattle.decode.specs.declared.Decoded.{Decoded}
-use Rattle.decode.specs.declared.Decoded.TheVariants.{Unspecified, Known}
 use Rattle.decode.specs.declared.rows.Row.{Row}
 use Rattle.decode.specs.Decode.{control_instruction, status_instruction, low_instruction, instruction_of, is_unspecified, decode_at}
 use Rattle.decode.specs.Rows.{row_of, interruptible_entry, plain_entry, control_entry, register_entry, branch_cycles, branch_entry, memory_words, store_entry}
@@ -60,9 +59,9 @@ module _ (read : ℕ → ℕ) (limit higher : ℕ) (above : limit ≤ higher) wh
       cond_either (λ t. (t ≡ ends over → ⊥) → row_turn higher p row ≡ t) (ltb limit (p.sum + row.cycles)) (λ e h. absurd (h refl))
       (λ e h. let k = ltb-false limit (p.sum + row.cycles) e in cond-false _ _ (le-ltb higher (p.sum + row.cycles) (omega arith))) n
 
-  decoded-higher : (p : Place) (x : Decoded) → (decoded_turn limit p x ≡ ends over → ⊥) → decoded_turn higher p x ≡ decoded_turn limit p x
-  decoded-higher p Unspecified n = refl
-  decoded-higher p (Known i) n = row-higher p (row_of i p.double) n
+  decoded-higher : (p : Place) (x : Option Instr) → (decoded_turn limit p x ≡ ends over → ⊥) → decoded_turn higher p x ≡ decoded_turn limit p x
+  decoded-higher p None n = refl
+  decoded-higher p (Some i) n = row-higher p (row_of i p.double) n
 
   turn-higher : (p : Place) → (turn_at read limit p ≡ ends over → ⊥) → turn_at read higher p ≡ turn_at read limit p
   unfolding turn_at
@@ -101,10 +100,10 @@ module _ (b : Bus) (limit higher : ℕ) (above : limit_of limit ≤ limit_of hig
 
   module _ (first last : ℕ) where
     -- where the call at the limit is let in, the one at the higher limit is
-    lets-higher : scan_admission b first last limit ≡ Admitted → scan_admission b first last higher ≡ Admitted
+    lets-higher : scan_admission b first last limit ≡ Ok (tt {0}) → scan_admission b first last higher ≡ Ok (tt {0})
     lets-higher e = let k = region-in b first last limit e in lets_in b first last higher (record { admitted = k.admitted; ordered = k.ordered; low = low })
 
-    names : (is_start : ℕ → Bool) → scan_admission b first last limit ≡ Admitted → (named_of is_start (answer_from b limit) first last).lowest_over ≡ no_over →
+    names : (is_start : ℕ → Bool) → scan_admission b first last limit ≡ Ok (tt {0}) → (named_of is_start (answer_from b limit) first last).lowest_over ≡ no_over →
         answered (named_of is_start (answer_from b higher) first last) ≡ answered (named_of is_start (answer_from b limit) first last)
     names is_start e n = ap answered (named-higher is_start (read_of b) (limit_of limit) (limit_of higher) first last above (region-in b first last limit e).ordered n)
 

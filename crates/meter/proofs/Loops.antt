@@ -1,31 +1,30 @@
 -- The invariants of the meter's loops, and what a turn of each keeps. Each is a record, so that a proof names none of its arguments.
+use Rattle.std.specs.Prelude.{Option, Ok}
+use Rattle.decode.specs.declared.Instr.{Instr}
 use Prim.Native.Nat.{ℕ, suc, ◌+◌, ◌-◌, ◌*◌, ◌/◌, ◌<◌, ◌≤◌, max, min}
-use mathlib.Core.Path.{◌≡◌, refl, ap, ap₂, sym, ◌∙◌}
+use mathlib.Core.Path.{◌≡◌, refl, ap, sym, ◌∙◌}
 use mathlib.Core.Bool.{Bool, true, false}
 use mathlib.Core.List.{List}
 use native.Mathlib.Numerals.{add-one}
 use native.Mathlib.Omega.{arith}
 use lib.ListN.{get_or}
 use Rattle.refusal.specs.Report.{answered}
-use Rattle.memory.specs.declared.Admission.TheVariants.{Admitted}
 use Rattle.memory.specs.declared.map.Range.{Range}
 use Rattle.memory.specs.declared.map.Board.{Board}
 use Rattle.memory.specs.Bus.{Bus, bus_on, read_of, admission_of}
 use Rattle.memory.specs.Near.{in_front, no_range, near_of}
 use Rattle.memory.proofs.NearLaws.{near-laws}
 use Rattle.bitset.specs.Bits.{contains}
-use Rattle.decode.specs.declared.Instr.{Instr}
-use Rattle.decode.specs.declared.Decoded.{Decoded}
 use Rattle.decode.specs.Fields.{opcode_of}
 use Rattle.decode.specs.Decode.{instruction_of, specified}
 use Rattle.decode.proofs.DecodeLaws.{decodes-in-steps}
 use Rattle.meter.specs.declared.Walked.{Walked}
 use Rattle.meter.specs.declared.walk.Place.{Place}
-use Rattle.meter.specs.declared.walk.Next.{Next}
-use Rattle.meter.specs.declared.walk.Next.TheVariants.{Ends, GoesOn}
+use Rattle.std.specs.declared.ops.ControlFlow.{ControlFlow}
+use Rattle.std.specs.declared.ops.ControlFlow.TheVariants.{Continue, Break}
 use Rattle.meter.specs.Answer.{Answer, Named, answer_of}
 use Rattle.meter.specs.Walk.{limit_of, start_at, ends, goes_on, turned, decoded_turn, turn_at, after_turn, walk_on, walk_from}
-use Rattle.meter.specs.Meter.{answer_from, wait_of, named_before, named_of}
+use Rattle.meter.specs.Meter.{wait_of, named_before, named_of}
 use Rattle.meter.specs.Inner.Stretch.{nothing_named, named_with, starts_in, StretchAdds}
 use Rattle.meter.proofs.WalkLaws.{turn-goes, turn-adds, walk-equation, wait-answers}
 use Rattle.meter.proofs.StretchLaws.{named_none, named_start, named-pass, word-tells, adds-nothing}
@@ -38,46 +37,44 @@ at_hand b m a e f = near-laws.reads b _ m (rw (f, e) (near-laws.moves b no_range
 pub record Walking (read : ℕ → ℕ) (limit start : ℕ) (p : Place) : Type 0 where
   pub same : walk_on read limit p ≡ walk_from read limit start
   pub low : p.sum ≤ limit
-  pub small : limit ≤ 4096
 
-pub walking : {read : ℕ → ℕ} {limit start : ℕ} {p : Place} → p ≡ start_at start → limit ≤ 4096 → Walking read limit start p
+pub walking : {read : ℕ → ℕ} {limit start : ℕ} {p : Place} → p ≡ start_at start → Walking read limit start p
 unfolding walk_from start_at
-walking e h = rw e (record { same = refl; low = omega arith; small = h })
+walking e = rw e (record { same = refl; low = omega arith })
 
 -- the loops decode in steps, the opcode's instruction and then its form: a turn of what is decoded so is the walk's
-pub decoded-turn : {read : ℕ → ℕ} {limit start v : ℕ} {p : Place} {i : Instr} {x : Decoded} → Walking read limit start p → v ≡ read p.address → i ≡ instruction_of (opcode_of v) → x ≡ specified read p.address i p.double → decoded_turn limit p x ≡ turn_at read limit p
+pub decoded-turn : {read : ℕ → ℕ} {limit start v : ℕ} {p : Place} {i : Instr} {x : Option Instr} → Walking read limit start p → v ≡ read p.address → i ≡ instruction_of (opcode_of v) → x ≡ specified read p.address i p.double → decoded_turn limit p x ≡ turn_at read limit p
 unfolding turn_at
 decoded-turn {read} {limit} {p = p} k e f g = rw (g, f, e) (ap (decoded_turn limit p) (decodes-in-steps.steps read p.address p.double))
 
 -- the code's turn at a place of the walk
-abbrev pub Turns : {read : ℕ → ℕ} {limit start : ℕ} {p : Place} → Walking read limit start p → Next → Type 0
+abbrev pub Turns : {read : ℕ → ℕ} {limit start : ℕ} {p : Place} → Walking read limit start p → ControlFlow Walked Place → Type 0
 Turns {read} {limit} {start} {p} k t = turned t ≡ turn_at read limit p
 
-module _ {read : ℕ → ℕ} {limit start : ℕ} {p : Place} {t : Next} (k : Walking read limit start p) (e : Turns k t) where
-  pub walking_on : {q : Place} → t ≡ GoesOn q → Walking read limit start q
+module _ {read : ℕ → ℕ} {limit start : ℕ} {p : Place} {t : ControlFlow Walked Place} (k : Walking read limit start p) (e : Turns k t) where
+  pub walking_on : {q : Place} → t ≡ Continue q → Walking read limit start q
   walking_on {q} g =
       let h : turn_at read limit p ≡ goes_on q = sym e ∙ ap turned g in
       record {
         same = sym (walk-equation read limit p ∙ ap (after_turn (λ a. a) (walk_on read limit)) h) ∙ k.same;
         low = (turn-goes read limit p h).room;
-        small = k.small;
       }
 
-  pub walking-less : {q : Place} → t ≡ GoesOn q → limit - q.sum < limit - p.sum
+  pub walking-less : {q : Place} → t ≡ Continue q → limit - q.sum < limit - p.sum
   walking-less g =
       let h = sym e ∙ ap turned g in
       let r = turn-goes read limit p h in
       let a = turn-adds read limit p h in
       omega arith
 
-  pub walking-ends : {w : Walked} → t ≡ Ends w → answer_of w ≡ walk_from read limit start
+  pub walking-ends : {w : Walked} → t ≡ Break w → answer_of w ≡ walk_from read limit start
   walking-ends {w} g =
       let h : turn_at read limit p ≡ ends (answer_of w) = sym e ∙ ap turned g in
       sym (walk-equation read limit p ∙ ap (after_turn (λ a. a) (walk_on read limit)) h) ∙ k.same
 
 -- the end of the walk of the meter for an address
-pub wait-end : {x : Answer} {read : ℕ → ℕ} (b : Bus) (a limit l : ℕ) → x ≡ walk_from read l a → read ≡ read_of b → l ≡ limit_of limit → admission_of b ≡ Admitted → limit ≤ 4096 → answered x ≡ wait_of b a limit
-wait-end b a limit l e f r p q = ap answered (e ∙ ap₂ (λ (g : ℕ → ℕ) (n : ℕ). walk_from g n a) f r) ∙ sym (wait-answers b a limit p q)
+pub wait-end : {x : Answer} {l : ℕ} (b : Bus) (a limit : ℕ) → x ≡ walk_from (read_of b) l a → l ≡ limit_of limit → admission_of b ≡ Ok (tt {0}) → limit ≤ 4096 → answered x ≡ wait_of b a limit
+wait-end b a limit e r p q = ap answered (e ∙ ap (λ (n : ℕ). walk_from (read_of b) n a) r) ∙ sym (wait-answers b a limit p q)
 
 -- the scan of a stretch, at an address of it: what its starts before that add
 pub record Scanning (is_start : ℕ → Bool) (answers : ℕ → Answer) (first last : ℕ) (before : Named) (at : ℕ) (now : Named) : Type 0 where
@@ -107,10 +104,6 @@ module _ {is_start : ℕ → Bool} {answers : ℕ → Answer} {first last at : �
 
   pub scanning-end : Scanned k now' → last ≤ at → StretchAdds is_start answers first (suc last) before now'
   scanning-end h l = let e : last ≡ at = omega (arith, k.to) in rw e h
-
--- the loops' answers are the meter's
-pub adds-answers : {is_start : ℕ → Bool} {read : ℕ → ℕ} {l first end : ℕ} {before after : Named} (b : Bus) (limit : ℕ) → StretchAdds is_start (walk_from read l) first end before after → read ≡ read_of b → l ≡ limit_of limit → StretchAdds is_start (answer_from b limit) first end before after
-adds-answers b limit h e f = rw (e, f) at h
 
 -- the scan of a set's members, at a word of the set: what the members before the word's addresses name
 pub record Collecting (clear : List ℕ) (answers : ℕ → Answer) (first last i : ℕ) (now : Named) : Type 0 where

@@ -1,4 +1,6 @@
 -- Laws of the meter for a region, in both modes: where it is let in, what it then names, and the second mode beside the first.
+use Rattle.std.specs.Prelude.{Result, Ok, Err}
+use Rattle.refusal.specs.declared.Refusal.{Refusal}
 use Prim.Native.Nat.{ℕ, suc, ◌≤◌}
 use mathlib.Core.Path.{◌≡◌, refl, ap, sym, ◌∙◌}
 use mathlib.Core.Bool.{Bool, true, false, not, ◌||◌}
@@ -7,13 +9,10 @@ use native.Mathlib.Omega.{arith}
 use lib.Dec.{eqb, ltb}
 use lib.ListN.{length}
 use borrow.Author.Tests.{ltb-false, le-ltb, eqb-true}
-use Rattle.refusal.specs.declared.Refusal.{Refusal}
 use Rattle.refusal.specs.declared.Refusal.TheVariants.{WrongSetLength}
 use Rattle.refusal.specs.Refusals.{refusal_number}
 use Rattle.refusal.specs.Report.{Report, refused, answered, UnlessRefused}
 use Rattle.word.proofs.Choice.{cond-true, cond-false, cond_both, cond_either}
-use Rattle.memory.specs.declared.Admission.{Admission}
-use Rattle.memory.specs.declared.Admission.TheVariants.{Admitted, Barred}
 use Rattle.memory.specs.Bus.{Bus, admission_of, unless_barred}
 use Rattle.memory.proofs.BusLaws.{unless-in}
 use Rattle.bitset.specs.Bits.{set_length, contains}
@@ -24,43 +23,43 @@ use Rattle.meter.proofs.WalkLaws.{wait-answers}
 use Rattle.meter.proofs.ScanLaws.{named-law, named-agree, same-starts}
 
 -- by whether a call is let in
-pub unless-either : {A : Type 0} (P : A → Type 0) (a : Admission) {refuse : Refusal → A} {x : A} → ((r : Refusal) → P (refuse r)) → (a ≡ Admitted → P x) → P (unless_barred a refuse x)
-unless-either P Admitted p q = q refl
-unless-either P (Barred r) p q = p r
+pub unless-either : {A : Type 0} (P : A → Type 0) (a : Result (Unit {0}) Refusal) {refuse : Refusal → A} {x : A} → ((r : Refusal) → P (refuse r)) → (a ≡ Ok (tt {0}) → P x) → P (unless_barred a refuse x)
+unless-either P (Ok u) p q = q refl
+unless-either P (Err r) p q = p r
 
 -- two calls with the same refusals, that do the same where the second is let in
-pub unless-same : {A : Type 0} {p : Admission} (q : Admission) (refuse : Refusal → A) (x y : A) → p ≡ q → (q ≡ Admitted → x ≡ y) → unless_barred p refuse x ≡ unless_barred q refuse y
-unless-same Admitted refuse x y e h = rw e (h refl)
-unless-same (Barred r) refuse x y e h = rw e
+pub unless-same : {A : Type 0} {p : Result (Unit {0}) Refusal} (q : Result (Unit {0}) Refusal) (refuse : Refusal → A) (x y : A) → p ≡ q → (q ≡ Ok (tt {0}) → x ≡ y) → unless_barred p refuse x ≡ unless_barred q refuse y
+unless-same (Ok u) refuse x y e h = rw e (h refl)
+unless-same (Err r) refuse x y e h = rw e
 
 -- what is known of a region's call that is let in
 pub record RegionIn (b : Bus) (first last limit : ℕ) : Type 0 where
-  pub admitted : admission_of b ≡ Admitted
+  pub admitted : admission_of b ≡ Ok (tt {0})
   pub ordered : first ≤ last
   pub low : limit ≤ 4096
 
-barred : {A : Type 0} {r : Refusal} → Barred r ≡ Admitted → A
+barred : {A : Type 0} {r : Refusal} → Err r ≡ Ok (tt {0}) → A
 barred e = let z : ◌≡◌ {A = ℕ} 0 1 = cc in absurd (omega arith)
 
-pub region-in : (b : Bus) (first last limit : ℕ) → scan_admission b first last limit ≡ Admitted → RegionIn b first last limit
+pub region-in : (b : Bus) (first last limit : ℕ) → scan_admission b first last limit ≡ Ok (tt {0}) → RegionIn b first last limit
 unfolding scan_admission
 region-in b first last limit =
-    let P : Admission → Type 0 = λ a. a ≡ Admitted → RegionIn b first last limit in
+    let P : Result (Unit {0}) Refusal → Type 0 = λ a. a ≡ Ok (tt {0}) → RegionIn b first last limit in
     unless-either P (admission_of b) (λ r. barred)
     (λ a. cond_either P (ltb last first) (λ p. barred)
     (λ p. cond_either P (ltb 4096 limit) (λ q. barred) (λ q e. record { admitted = a; ordered = ltb-false last first p; low = ltb-false 4096 limit q })))
 
-pub lets_in : (b : Bus) (first last limit : ℕ) → RegionIn b first last limit → scan_admission b first last limit ≡ Admitted
+pub lets_in : (b : Bus) (first last limit : ℕ) → RegionIn b first last limit → scan_admission b first last limit ≡ Ok (tt {0})
 unfolding scan_admission
 lets_in b first last limit k = unless-in _ _ k.admitted ∙ cond-false _ _ (le-ltb _ _ k.ordered) ∙ cond-false _ _ (le-ltb _ _ k.low)
 
 -- the first mode: what it answers where it is let in
 module _ (b : Bus) (first last limit : ℕ) where
-  pub region-end : {x : Report Named} {n : Named} → x ≡ answered n → n ≡ named_of every_address (answer_from b limit) first last → scan_admission b first last limit ≡ Admitted → x ≡ region_of b first last limit
+  pub region-end : {x : Report Named} {n : Named} → x ≡ answered n → n ≡ named_of every_address (answer_from b limit) first last → scan_admission b first last limit ≡ Ok (tt {0}) → x ≡ region_of b first last limit
   unfolding region_of
   region-end e q a = e ∙ ap answered q ∙ sym (unless-in _ _ a)
 
-  pub region-answers : admission_of b ≡ Admitted → first ≤ last → limit ≤ 4096 → region_of b first last limit ≡ answered (named_of every_address (answer_from b limit) first last)
+  pub region-answers : admission_of b ≡ Ok (tt {0}) → first ≤ last → limit ≤ 4096 → region_of b first last limit ≡ answered (named_of every_address (answer_from b limit) first last)
   region-answers p q r = sym (region-end refl refl (lets_in b first last limit (record { admitted = p; ordered = q; low = r })))
 
 pub names-its-starts : NamesItsStarts
@@ -71,13 +70,13 @@ names-its-starts b first last limit =
 
 -- the second mode
 module _ (b : Bus) (first last limit : ℕ) (clear set : List ℕ) where
-  pub reached-end : {x : Report Named} {n : Named} → x ≡ answered n → n ≡ named_of (contains clear) (answer_from b limit) first last → scan_admission b first last limit ≡ Admitted →
+  pub reached-end : {x : Report Named} {n : Named} → x ≡ answered n → n ≡ named_of (contains clear) (answer_from b limit) first last → scan_admission b first last limit ≡ Ok (tt {0}) →
       length clear ≡ set_length → length set ≡ set_length → x ≡ region_reached_of b first last limit clear set
   unfolding region_reached_of
   reached-end e q a p r = e ∙ ap answered q ∙ sym (unless-in _ _ a ∙ rw (p, r))
 
   -- .. where a buffer is of another length
-  pub reached-wrong : scan_admission b first last limit ≡ Admitted → (length clear ≡ set_length → length set ≡ set_length → ⊥) → refused (refusal_number WrongSetLength) ≡ region_reached_of b first last limit clear set
+  pub reached-wrong : scan_admission b first last limit ≡ Ok (tt {0}) → (length clear ≡ set_length → length set ≡ set_length → ⊥) → refused (refusal_number WrongSetLength) ≡ region_reached_of b first last limit clear set
   unfolding region_reached_of
   reached-wrong a h = sym (unless-in _ _ a ∙ cond-true _ _ (go (eqb (length clear) set_length) (eqb (length set) set_length) refl refl))
     where

@@ -1,4 +1,7 @@
 -- Laws of the walk: its turns by the way they go, its equation with no count, and that the meter answers it.
+use Rattle.std.specs.Prelude.{Option, Some, None, Result, Ok, Err}
+use Rattle.refusal.specs.declared.Refusal.{Refusal}
+use Rattle.decode.specs.declared.Instr.{Instr}
 use Prim.Native.Nat.{ℕ, zero, suc, ◌+◌, ◌<◌, ◌≤◌}
 use mathlib.Core.Path.{◌≡◌, refl, ap, sym, ◌∙◌}
 use mathlib.Core.Bool.{true, false}
@@ -10,13 +13,8 @@ use Rattle.refusal.specs.Report.{Report, refused, answered, UnlessRefused}
 use Rattle.refusal.proofs.ReportLaws.{no_answer}
 use Rattle.word.specs.Word.{wrap_add}
 use Rattle.word.proofs.Choice.{cond-true, cond-false, cond_both, cond_either}
-use Rattle.memory.specs.declared.Admission.{Admission}
-use Rattle.memory.specs.declared.Admission.TheVariants.{Admitted, Barred}
 use Rattle.memory.specs.Bus.{Bus, read_of, admission_of, unless_barred}
 use Rattle.memory.proofs.BusLaws.{unless-both, unless-in}
-use Rattle.decode.specs.declared.Instr.{Instr}
-use Rattle.decode.specs.declared.Decoded.{Decoded}
-use Rattle.decode.specs.declared.Decoded.TheVariants.{Unspecified, Known}
 use Rattle.decode.specs.declared.rows.Row.{Row}
 use Rattle.decode.specs.Decode.{decode_at}
 use Rattle.decode.specs.Rows.{row_of}
@@ -28,7 +26,7 @@ use Rattle.meter.specs.Meter.{answer_from, wait_of}
 use Rattle.meter.specs.Laws.{WalkEquation, AnswersTheWalk}
 
 -- a turn by what is decoded at its place
-pub turn-row : (limit : ℕ) (p : Place) {x : Decoded} {i : Instr} {row : Row} → x ≡ Known i → row ≡ row_of i p.double → decoded_turn limit p x ≡ row_turn limit p row
+pub turn-row : (limit : ℕ) (p : Place) {x : Option Instr} {i : Instr} {row : Row} → x ≡ Some i → row ≡ row_of i p.double → decoded_turn limit p x ≡ row_turn limit p row
 turn-row limit p e q = ap (decoded_turn limit p) e ∙ ap (row_turn limit p) (sym q)
 
 -- a turn by its row
@@ -63,9 +61,9 @@ module _ (limit : ℕ) (p : Place) (row : Row) where
       (λ t. cond_either P row.halts (λ s. halting) (λ s. cond_either P row.interruptible (λ h. waiting s h) (λ h. going (ltb-false _ _ t) s h)))
 
 -- what a turn that goes on says of its instruction: neither interruptible nor a halt, and within the limit; and where it leads
-pub record TurnGoes (x : Decoded) (limit : ℕ) (p q : Place) : Type 0 where
+pub record TurnGoes (x : Option Instr) (limit : ℕ) (p q : Place) : Type 0 where
   pub instr : Instr
-  pub known : x ≡ Known instr
+  pub known : x ≡ Some instr
   pub running : (row_of instr p.double).halts ≡ false
   pub uninterruptible : (row_of instr p.double).interruptible ≡ false
   pub address : q.address ≡ wrap_add p.address (row_of instr p.double).words
@@ -74,17 +72,17 @@ pub record TurnGoes (x : Decoded) (limit : ℕ) (p q : Place) : Type 0 where
   pub room : q.sum ≤ limit
 
 -- .. one that waits: interruptible
-pub record TurnWaits (x : Decoded) (p : Place) (w : ℕ) : Type 0 where
+pub record TurnWaits (x : Option Instr) (p : Place) (w : ℕ) : Type 0 where
   pub instr : Instr
-  pub known : x ≡ Known instr
+  pub known : x ≡ Some instr
   pub running : (row_of instr p.double).halts ≡ false
   pub interruptible : (row_of instr p.double).interruptible ≡ true
   pub sum : w ≡ p.sum + (row_of instr p.double).cycles
 
 -- .. one over the limit
-pub record TurnExceeds (x : Decoded) (limit : ℕ) (p : Place) : Type 0 where
+pub record TurnExceeds (x : Option Instr) (limit : ℕ) (p : Place) : Type 0 where
   pub instr : Instr
-  pub known : x ≡ Known instr
+  pub known : x ≡ Some instr
   pub above : limit < p.sum + (row_of instr p.double).cycles
 
 -- two turns of different kinds
@@ -92,31 +90,31 @@ no-turn : {A : Type 0} {r : Answer} {p : Place} → ends r ≡ goes_on p → A
 no-turn e = let z : ◌≡◌ {A = ℕ} 0 1 = cc in absurd (omega arith)
 
 module _ (limit : ℕ) (p : Place) where
-  goes_by : (x : Decoded) {q : Place} → decoded_turn limit p x ≡ goes_on q → TurnGoes x limit p q
-  goes_by Unspecified e = no-turn e
-  goes_by (Known i) {q} e =
-      by_row limit p (row_of i p.double) (λ t. t ≡ goes_on q → TurnGoes (Known i) limit p q) (λ a k. no-turn k) (λ k. no-turn k) (λ s h k. no-turn k) going e
+  goes_by : (x : Option Instr) {q : Place} → decoded_turn limit p x ≡ goes_on q → TurnGoes x limit p q
+  goes_by None e = no-turn e
+  goes_by (Some i) {q} e =
+      by_row limit p (row_of i p.double) (λ t. t ≡ goes_on q → TurnGoes (Some i) limit p q) (λ a k. no-turn k) (λ k. no-turn k) (λ s h k. no-turn k) going e
     where
-      going : p.sum + (row_of i p.double).cycles ≤ limit → (row_of i p.double).halts ≡ false → (row_of i p.double).interruptible ≡ false → goes_on (place_after p (row_of i p.double)) ≡ goes_on q → TurnGoes (Known i) limit p q
+      going : p.sum + (row_of i p.double).cycles ≤ limit → (row_of i p.double).halts ≡ false → (row_of i p.double).interruptible ≡ false → goes_on (place_after p (row_of i p.double)) ≡ goes_on q → TurnGoes (Some i) limit p q
       going r s h k =
           unfold place_after in
           let n : place_after p (row_of i p.double) ≡ q = cc in
           rw (← n) (record { instr = i; known = refl; running = s; uninterruptible = h; address = refl; double = refl; sum = refl; room = r })
 
-  waits-by : (x : Decoded) {w : ℕ} → decoded_turn limit p x ≡ ends (wait w) → TurnWaits x p w
-  waits-by Unspecified e = let z : ◌≡◌ {A = ℕ} 0 1 = cc in absurd (omega arith)
-  waits-by (Known i) {w} e =
-      by_row limit p (row_of i p.double) (λ t. t ≡ ends (wait w) → TurnWaits (Known i) p w)
+  waits-by : (x : Option Instr) {w : ℕ} → decoded_turn limit p x ≡ ends (wait w) → TurnWaits x p w
+  waits-by None e = let z : ◌≡◌ {A = ℕ} 0 1 = cc in absurd (omega arith)
+  waits-by (Some i) {w} e =
+      by_row limit p (row_of i p.double) (λ t. t ≡ ends (wait w) → TurnWaits (Some i) p w)
       (λ a k. let z : ◌≡◌ {A = ℕ} 0 1 = cc in absurd (omega arith))
       (λ k. let z : ◌≡◌ {A = ℕ} 0 1 = cc in absurd (omega arith))
       (λ s h k. record { instr = i; known = refl; running = s; interruptible = h; sum = cc })
       (λ r s h k. no-turn (sym k))
       e
 
-  exceeds-by : (x : Decoded) → decoded_turn limit p x ≡ ends over → TurnExceeds x limit p
-  exceeds-by Unspecified e = let z : ◌≡◌ {A = ℕ} 0 1 = cc in absurd (omega arith)
-  exceeds-by (Known i) e =
-      by_row limit p (row_of i p.double) (λ t. t ≡ ends over → TurnExceeds (Known i) limit p)
+  exceeds-by : (x : Option Instr) → decoded_turn limit p x ≡ ends over → TurnExceeds x limit p
+  exceeds-by None e = let z : ◌≡◌ {A = ℕ} 0 1 = cc in absurd (omega arith)
+  exceeds-by (Some i) e =
+      by_row limit p (row_of i p.double) (λ t. t ≡ ends over → TurnExceeds (Some i) limit p)
       (λ a k. record { instr = i; known = refl; above = a })
       (λ k. let z : ◌≡◌ {A = ℕ} 0 1 = cc in absurd (omega arith))
       (λ s h k. let z : ◌≡◌ {A = ℕ} 0 1 = cc in absurd (omega arith))
@@ -196,16 +194,16 @@ answers-the-walk b a limit =
     unless-both P (admission_of b) (λ r. tt) (cond_both P (ltb 4096 limit) tt refl)
 
 -- .. and where it is let in and the limit is in range it answers
-pub wait-answers : (b : Bus) (a limit : ℕ) → admission_of b ≡ Admitted → limit ≤ 4096 → wait_of b a limit ≡ answered (answer_from b limit a)
+pub wait-answers : (b : Bus) (a limit : ℕ) → admission_of b ≡ Ok (tt {0}) → limit ≤ 4096 → wait_of b a limit ≡ answered (answer_from b limit a)
 unfolding wait_of
 wait-answers b a limit p q = unless-in _ _ p ∙ cond-false _ _ (le-ltb _ _ q)
 
 -- .. and where it answers it was let in
-let-in : (a : Admission) (y : Report Answer) {x : Answer} → unless_barred a (λ r. refused (refusal_number r)) y ≡ answered x → a ≡ Admitted
-let-in Admitted y e = refl
-let-in (Barred r) y e = no_answer e
+let-in : (a : Result (Unit {0}) Refusal) (y : Report Answer) {x : Answer} → unless_barred a (λ r. refused (refusal_number r)) y ≡ answered x → a ≡ Ok (tt {0})
+let-in (Ok u) y e = refl
+let-in (Err r) y e = no_answer e
 
-pub wait-admitted : (b : Bus) (a limit : ℕ) {x : Answer} → wait_of b a limit ≡ answered x → admission_of b ≡ Admitted
+pub wait-admitted : (b : Bus) (a limit : ℕ) {x : Answer} → wait_of b a limit ≡ answered x → admission_of b ≡ Ok (tt {0})
 unfolding wait_of
 wait-admitted b a limit e = let-in (admission_of b) _ e
 

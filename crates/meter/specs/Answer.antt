@@ -1,17 +1,12 @@
 -- What the wait meter answers, in document 01's terms and numbers.
-use Rattle.std.specs.Prelude.{ℕ}
+use Rattle.std.specs.Prelude.{ℕ, Option, Some, None, Result, Ok, Err}
+use Rattle.refusal.specs.declared.Refusal.{Refusal}
 use Rattle.refusal.specs.Refusals.{refusal_number}
 use Rattle.refusal.specs.Report.{Report, refused, answered}
 use Rattle.meter.specs.declared.Walked.{Walked}
 use Rattle.meter.specs.declared.Walked.TheVariants.{Wait, Over, Halts, Unspecified}
-use Rattle.meter.specs.declared.WaitAnswer.{WaitAnswer}
-use Rattle.meter.specs.declared.WaitAnswer.TheVariants.{Refused, Answered}
 use Rattle.meter.specs.declared.LongestWait.{LongestWait}
-use Rattle.meter.specs.declared.LongestWait.TheVariants.{NoWait, Cycles}
-use Rattle.meter.specs.declared.LowestOver.{LowestOver}
-use Rattle.meter.specs.declared.LowestOver.TheVariants.{NoOver, At}
-use Rattle.meter.specs.declared.RegionAnswer.{RegionAnswer}
-use Rattle.meter.specs.declared.RegionAnswer.TheVariants.{Refused as Rejected, Found}
+use Rattle.meter.specs.declared.Findings.{Findings}
 
 -- what the walk from an address answers
 pub data Answer : Type 0 where
@@ -45,18 +40,22 @@ answer_of Over = over
 answer_of Halts = halts
 answer_of (Unspecified a) = unspecified a
 
-abbrev pub wait_report : WaitAnswer → Report Answer
-wait_report (Refused r) = refused (refusal_number r)
-wait_report (Answered w) = answered (answer_of w)
+abbrev pub wait_report : Result Walked Refusal → Report Answer
+wait_report (Err r) = refused (refusal_number r)
+wait_report (Ok w) = answered (answer_of w)
 
-abbrev pub longest_of : LongestWait → Longest
-longest_of NoWait = no_wait
-longest_of (Cycles n start) = longest n start
+abbrev pub longest_of : Option LongestWait → Longest
+longest_of None = no_wait
+longest_of (Some l) = longest l.cycles l.start
 
-abbrev pub lowest_of : LowestOver → Lowest
-lowest_of NoOver = no_over
-lowest_of (At start) = over_at start
+abbrev pub lowest_of : Option ℕ → Lowest
+lowest_of None = no_over
+lowest_of (Some start) = over_at start
 
-abbrev pub region_report : RegionAnswer → Report Named
-region_report (Rejected r) = refused (refusal_number r)
-region_report (Found l o) = answered (record { longest_wait = longest_of l; lowest_over = lowest_of o })
+-- what the code's findings stand for
+abbrev pub named_in : Findings → Named
+named_in f = record { longest_wait = longest_of f.longest; lowest_over = lowest_of f.lowest }
+
+abbrev pub region_report : Result Findings Refusal → Report Named
+region_report (Err r) = refused (refusal_number r)
+region_report (Ok f) = answered (named_in f)

@@ -1,10 +1,9 @@
 -- Document 01, "Wait meter": the two calls, and the second mode of document 02, [4]; with their refusals.
-use Rattle.std.specs.Prelude.{ℕ, suc, ◌-◌, Bool, true, cond, ◌||◌, List, ltb}
+use Rattle.std.specs.Prelude.{ℕ, suc, ◌-◌, Bool, true, cond, ◌||◌, List, ltb, Result, Ok, Err}
+use Rattle.refusal.specs.declared.Refusal.{Refusal}
 use Rattle.refusal.specs.declared.Refusal.TheVariants.{FirstAboveLast, LimitTooHigh, WrongSetLength}
 use Rattle.refusal.specs.Refusals.{refusal_number}
 use Rattle.refusal.specs.Report.{Report, refused, answered}
-use Rattle.memory.specs.declared.Admission.{Admission}
-use Rattle.memory.specs.declared.Admission.TheVariants.{Admitted, Barred}
 use Rattle.memory.specs.Bus.{Bus, read_of, admission_of, unless_barred}
 use Rattle.bitset.specs.Bits.{is_wrong_length, contains}
 use Rattle.meter.specs.Answer.{Answer, Named}
@@ -34,10 +33,10 @@ unfoldable pub named_of : (ℕ → Bool) → (ℕ → Answer) → ℕ → ℕ �
 named_of is_start answers first last = named_before is_start answers first (suc last)
 
 -- whether the meter for a region is let in, in either mode: refusals 1, 14, 7 and 8
-unfoldable pub scan_admission : Bus → ℕ → ℕ → ℕ → Admission
+unfoldable pub scan_admission : Bus → ℕ → ℕ → ℕ → Result (Unit {0}) Refusal
 scan_admission b first last limit =
-    unless_barred (admission_of b) Barred
-    (cond (ltb last first) (Barred FirstAboveLast) (cond (ltb highest_limit limit) (Barred LimitTooHigh) Admitted))
+    unless_barred (admission_of b) Err
+    (cond (ltb last first) (Err FirstAboveLast) (cond (ltb highest_limit limit) (Err LimitTooHigh) (Ok tt)))
 
 -- "every address a start"
 abbrev pub every_address : ℕ → Bool

@@ -1,14 +1,14 @@
 -- Document 01, "Wait meter": the walk from an address. The memory is a reader, from an address to the word there.
-use Rattle.std.specs.Prelude.{ℕ, zero, suc, ◌+◌, false, cond, eqb, ltb}
+use Rattle.std.specs.Prelude.{ℕ, zero, suc, ◌+◌, false, cond, eqb, ltb, Option, Some, None}
+use Rattle.std.specs.declared.ops.ControlFlow.{ControlFlow}
+use Rattle.std.specs.declared.ops.ControlFlow.TheVariants.{Continue, Break}
 use Rattle.word.specs.Word.{wrap_add}
-use Rattle.decode.specs.declared.Decoded.{Decoded}
-use Rattle.decode.specs.declared.Decoded.TheVariants.{Unspecified, Known}
+use Rattle.decode.specs.declared.Instr.{Instr}
 use Rattle.decode.specs.declared.rows.Row.{Row}
 use Rattle.decode.specs.Decode.{decode_at}
 use Rattle.decode.specs.Rows.{row_of}
 use Rattle.meter.specs.declared.walk.Place.{Place}
-use Rattle.meter.specs.declared.walk.Next.{Next}
-use Rattle.meter.specs.declared.walk.Next.TheVariants.{Ends, GoesOn}
+use Rattle.meter.specs.declared.Walked.{Walked}
 use Rattle.meter.specs.Answer.{Answer, wait, over, halts, unspecified, answer_of}
 
 -- "Limit 1 to 4,096 cycles"
@@ -49,9 +49,9 @@ row_turn limit p row =
     (cond row.halts (ends halts) (cond row.interruptible (ends (wait (p.sum + row.cycles))) (goes_on (place_after p row))))
 
 -- "At each: unspecified answers Unspecified with its address"
-abbrev pub decoded_turn : ℕ → Place → Decoded → Turn
-decoded_turn limit p Unspecified = ends (unspecified p.address)
-decoded_turn limit p (Known i) = row_turn limit p (row_of i p.double)
+abbrev pub decoded_turn : ℕ → Place → Option Instr → Turn
+decoded_turn limit p None = ends (unspecified p.address)
+decoded_turn limit p (Some i) = row_turn limit p (row_of i p.double)
 
 -- one turn of the walk; a row's cycles are those of a branch taken, and NOPP's 7
 unfoldable pub turn_at : (ℕ → ℕ) → ℕ → Place → Turn
@@ -77,6 +77,6 @@ unfoldable pub walk_from : (ℕ → ℕ) → ℕ → ℕ → Answer
 walk_from read limit a = walk_on read limit (start_at a)
 
 -- what the code's turn stands for
-abbrev pub turned : Next → Turn
-turned (Ends w) = ends (answer_of w)
-turned (GoesOn p) = goes_on p
+abbrev pub turned : ControlFlow Walked Place → Turn
+turned (Break w) = ends (answer_of w)
+turned (Continue p) = goes_on p

@@ -1,17 +1,16 @@
 // The wait meter: after how many cycles a request is heard, from an address and over a region, found by a walk over the code.
 #![tactic(auto)]
 
-ghost use Rattle.std.specs.Prelude.{◌≡◌};
-ghost use Rattle.refusal.specs.Report.{answered};
+ghost use Rattle.std.specs.Prelude.{◌≡◌, ◌≤◌, MatchResult, Ok, Err};
 ghost use Rattle.memory.specs.Bus.{bus_on};
 ghost use Rattle.meter.specs.Answer.{wait_report, region_report};
+ghost use Rattle.meter.specs.Walk.{limit_of};
 ghost use Rattle.meter.specs.Meter.{wait_of, scan_admission, region_of, region_reached_of};
-ghost use Rattle.meter.specs.Inner.Stretch.{named_in};
 
-use crate::scan::Findings;
-use crate::walk::Next;
+use crate::scan::Region;
+use crate::walk::Limit;
 use memory::map::Board;
-use memory::{Admission, near};
+use memory::near;
 use refusal::Refusal;
 
 mod scan;
@@ -30,105 +29,63 @@ pub enum Walked {
     Unspecified { address: u16 },
 }
 
-#[derive(Clone, Copy)]
-pub enum WaitAnswer {
-    Refused(Refusal),
-    Answered(Walked),
-}
-
 // The longest wait of a region and the lowest start that has it.
 #[derive(Clone, Copy)]
-pub enum LongestWait {
-    NoWait,
-    Cycles { cycles: u16, start: u16 },
+pub struct LongestWait {
+    pub cycles: u16,
+    pub start: u16,
 }
 
-// The lowest start of a region whose wait is over the limit.
-#[derive(Clone, Copy)]
-pub enum LowestOver {
-    NoOver,
-    At { start: u16 },
-}
-
-#[derive(Clone, Copy)]
-pub enum RegionAnswer {
-    Refused(Refusal),
-    Found {
-        longest: LongestWait,
-        lowest: LowestOver,
-    },
+// What the starts of a region name: the longest wait, and the lowest start whose wait is over the limit.
+#[derive(Clone, Copy, Default)]
+pub struct Findings {
+    pub longest: Option<LongestWait>,
+    pub lowest: Option<u16>,
 }
 
 // The meter for an address.
-pub fn wait(board: Board, mem: &[u16], address: u16, limit: u16) -> WaitAnswer
+pub fn wait(board: Board, mem: &[u16], address: u16, limit: u16) -> Result<Walked, Refusal>
     ensures { wait_report result ≡ wait_of (bus_on board mem.now) address limit }
 {
-    let admission = memory::admit(board, mem);
-    if let Admission::Barred(refusal) = admission {
-        return WaitAnswer::Refused(refusal);
-    }
-    if walk::HIGHEST_LIMIT < limit {
-        return WaitAnswer::Refused(Refusal::LimitTooHigh);
-    }
-    let walk_limit = walk::limit_of(limit);
+    memory::admit(board, mem)?;
+    let limit = Limit::given(limit)?;
     let at_hand = near::near_to(board, near::no_range(), address);
-    let mut place = walk::start_at(address);
-    loop {
-        // the decoding stands here, and in `scan::stretch`, and not in `turn`: one function with both is too long for the compiler to make one
-        // with the loops
-        let at = place.address;
-        let instr = decode::instruction(memory::read(board, at_hand, mem, at) % 1024);
-        let decoded = decode::specified_at(board, at_hand, mem, at, instr, place.double);
-        let next = walk::turn(decoded, walk_limit, place);
-        match next {
-            Next::Ends(walked) => return WaitAnswer::Answered(walked),
-            Next::GoesOn(after) => place = after,
-        }
-    }
+    Ok(walk::walk_from(board, at_hand, mem, address, limit))
 }
 
-// Whether the meter for a region is let in, in either mode.
-fn admit_scan(board: Board, mem: &[u16], first: u16, last: u16, limit: u16) -> Admission
-    ensures { result ≡ scan_admission (bus_on board mem.now) first last limit }
+// The region that the meter is to scan, in either mode, unless it is not let in.
+fn admit_scan(
+    board: Board,
+    mem: &[u16],
+    first: u16,
+    last: u16,
+    limit: u16,
+) -> Result<Region, Refusal>
+    ensures { MatchResult result
+        (λ region. (scan_admission (bus_on board mem.now) first last limit ≡ Ok tt)
+        × (region.first ≡ first) × (region.last ≡ last) × (region.limit.cycles ≡ limit_of limit))
+        (λ refusal. scan_admission (bus_on board mem.now) first last limit ≡ Err refusal) }
 {
-    let admission = memory::admit(board, mem);
-    if let Admission::Barred(_) = admission {
-        return admission;
-    }
+    memory::admit(board, mem)?;
     if last < first {
-        return Admission::Barred(Refusal::FirstAboveLast);
+        return Err(Refusal::FirstAboveLast);
     }
-    if walk::HIGHEST_LIMIT < limit {
-        return Admission::Barred(Refusal::LimitTooHigh);
-    }
-    Admission::Admitted
-}
-
-fn found(findings: Findings) -> RegionAnswer
-    ensures { region_report result ≡ answered (named_in findings) }
-{
-    let longest = findings.longest;
-    let lowest = findings.lowest;
-    RegionAnswer::Found { longest, lowest }
+    let limit = Limit::given(limit)?;
+    Ok(Region { first, last, limit })
 }
 
 // The meter for a region: every address from first to last is a start.
-pub fn region(board: Board, mem: &[u16], first: u16, last: u16, limit: u16) -> RegionAnswer
+pub fn region(
+    board: Board,
+    mem: &[u16],
+    first: u16,
+    last: u16,
+    limit: u16,
+) -> Result<Findings, Refusal>
     ensures { region_report result ≡ region_of (bus_on board mem.now) first last limit }
 {
-    let admission = admit_scan(board, mem, first, last, limit);
-    if let Admission::Barred(refusal) = admission {
-        return RegionAnswer::Refused(refusal);
-    }
-    found(scan::stretch(
-        board,
-        mem,
-        first,
-        last,
-        limit,
-        scan::EVERY_ADDRESS,
-        scan::nothing(),
-    ))
+    let region = admit_scan(board, mem, first, last, limit)?;
+    Ok(scan::stretch(board, mem, region, scan::EVERY_ADDRESS, Findings::default()))
 }
 
 // The same in a second mode: of the addresses from first to last those are starts that are in the set of reached addresses with D clear. The set is both
@@ -141,18 +98,13 @@ pub fn region_reached(
     limit: u16,
     clear: &[u64],
     set: &[u64],
-) -> RegionAnswer
+) -> Result<Findings, Refusal>
     ensures { region_report result ≡ region_reached_of (bus_on board mem.now) first last limit clear.now set.now }
 {
-    let admission = admit_scan(board, mem, first, last, limit);
-    if let Admission::Barred(refusal) = admission {
-        return RegionAnswer::Refused(refusal);
+    let region = admit_scan(board, mem, first, last, limit)?;
+    let wrong_length = clear.len() != bitset::WORDS || set.len() != bitset::WORDS;
+    if wrong_length {
+        return Err(Refusal::WrongSetLength);
     }
-    if clear.len() != bitset::WORDS {
-        return RegionAnswer::Refused(Refusal::WrongSetLength);
-    }
-    if set.len() != bitset::WORDS {
-        return RegionAnswer::Refused(Refusal::WrongSetLength);
-    }
-    found(scan::members(board, mem, first, last, limit, clear))
+    Ok(scan::members(board, mem, region, clear))
 }

@@ -1,15 +1,45 @@
 // The walk over the code: one turn of it is one instruction. The meters for an address and for a region share it.
-ghost use Rattle.std.specs.Prelude.{◌≡◌, ◌≤◌};
-ghost use Rattle.meter.specs.Walk.{start_at, limit_of, turned, decoded_turn};
+ghost use Rattle.std.specs.Prelude.{◌≡◌, ◌≤◌, ◌<◌, MatchResult};
+ghost use Rattle.refusal.specs.declared.Refusal.TheVariants.{LimitTooHigh};
+ghost use Rattle.memory.specs.Bus.{bus_on, read_of};
+ghost use Rattle.memory.specs.Near.{in_front};
+ghost use Rattle.meter.specs.Answer.{answer_of};
+ghost use Rattle.meter.specs.Walk.{highest_limit, start_at, limit_of, turned, decoded_turn, walk_from};
 
 use crate::Walked;
-use decode::{Decoded, rows};
+use decode::{Instr, rows};
+use memory::map::{Board, Range};
+use refusal::Refusal;
+use std::ops::ControlFlow;
 
 // The highest limit.
-pub(crate) const HIGHEST_LIMIT: u16 = 4096;
+const HIGHEST_LIMIT: u16 = 4096;
 
 // The limit that 0 means.
 const DEFAULT_LIMIT: u16 = 48;
+
+// A limit to walk with.
+#[derive(Clone, Copy)]
+pub(crate) struct Limit {
+    pub(crate) cycles: u16,
+    ghost low: { cycles ≤ 4096 },
+}
+
+impl Limit {
+    // The limit to walk with where a call is given this one, unless that is too high.
+    pub(crate) fn given(limit: u16) -> Result<Limit, Refusal>
+        ensures { MatchResult result
+            (λ walked. (limit ≤ highest_limit) × (walked.cycles ≡ limit_of limit))
+            (λ refusal. (highest_limit < limit) × (refusal ≡ LimitTooHigh)) }
+    {
+        if HIGHEST_LIMIT < limit {
+            return Err(Refusal::LimitTooHigh);
+        }
+        let default = limit == 0;
+        let cycles = if default { DEFAULT_LIMIT } else { limit };
+        Ok(Limit { cycles })
+    }
+}
 
 // Where the walk stands: before the instruction at an address, with D and the cycles so far. (Public, since `guarantees` names it.)
 #[derive(Clone, Copy)]
@@ -19,22 +49,8 @@ pub struct Place {
     pub sum: u16,
 }
 
-// What one instruction leads to: the walk's answer, or the place after it.
-#[derive(Clone, Copy)]
-pub(crate) enum Next {
-    Ends(Walked),
-    GoesOn(Place),
-}
-
-// The limit that is walked with.
-pub(crate) fn limit_of(limit: u16) -> u16
-    ensures { result ≡ limit_of limit }
-{
-    let default = limit == 0;
-    if default { DEFAULT_LIMIT } else { limit }
-}
-
-pub(crate) fn start_at(address: u16) -> Place
+#[tactic(auto, unfolding(crate::specs::Walk::start_at))]
+fn start_at(address: u16) -> Place
     ensures { result ≡ start_at address }
 {
     Place {
@@ -44,30 +60,53 @@ pub(crate) fn start_at(address: u16) -> Place
     }
 }
 
-// One instruction of the walk, once it is decoded.
-pub(crate) fn turn(decoded: Decoded, limit: u16, place: Place) -> Next
-    requires { (place.sum ≤ limit) × (limit ≤ 4096) }
-    ensures { turned result ≡ decoded_turn limit place decoded }
+// One instruction of the walk, once it is decoded: the walk's answer, or the place after it.
+fn turn(decoded: Option<Instr>, limit: Limit, place: Place) -> ControlFlow<Walked, Place>
+    requires { place.sum ≤ limit.cycles }
+    ensures { turned result ≡ decoded_turn limit.cycles place decoded }
 {
-    let Decoded::Known(instr) = decoded else {
-        return Next::Ends(Walked::Unspecified {
+    let Some(instr) = decoded else {
+        return ControlFlow::Break(Walked::Unspecified {
             address: place.address,
         });
     };
     let row = rows::row_of(instr, place.double);
     let sum = place.sum + row.cycles as u16;
-    if limit < sum {
-        return Next::Ends(Walked::Over);
+    if limit.cycles < sum {
+        return ControlFlow::Break(Walked::Over);
     }
     if row.halts {
-        return Next::Ends(Walked::Halts);
+        return ControlFlow::Break(Walked::Halts);
     }
     if row.interruptible {
-        return Next::Ends(Walked::Wait { cycles: sum });
+        return ControlFlow::Break(Walked::Wait { cycles: sum });
     }
-    Next::GoesOn(Place {
+    ControlFlow::Continue(Place {
         address: word::wrapping_add(place.address, row.words),
         double: row.double,
         sum,
     })
+}
+
+// The walk from an address, with a range at hand. Made one with each caller: the loops of `scan::stretch` would else call it for each start.
+#[inline(always)]
+pub(crate) fn walk_from(
+    board: Board,
+    at_hand: Range,
+    mem: &[u16],
+    start: u16,
+    limit: Limit,
+) -> Walked
+    ensures { answer_of result ≡ walk_from (read_of (bus_on (in_front at_hand board) mem.now)) limit.cycles start }
+{
+    let mut place = start_at(start);
+    'walk: loop {
+        let at = place.address;
+        let instr = decode::instruction(memory::read(board, at_hand, mem, at) % 1024);
+        let decoded = decode::specified_at(board, at_hand, mem, at, instr, place.double);
+        match turn(decoded, limit, place) {
+            ControlFlow::Break(walked) => break 'walk walked,
+            ControlFlow::Continue(after) => place = after,
+        }
+    }
 }

@@ -1,20 +1,22 @@
 -- Laws of what stands at the front of a text, and of lines: printed, and read again.
-use Prim.Native.Nat.{ℕ, suc, ◌+◌, ◌<◌, ◌≤◌}
+use Prim.Native.Nat.{ℕ, ◌<◌, ◌≤◌}
 use mathlib.Core.Path.{◌≡◌, refl, sym, ap, ◌∙◌}
 use mathlib.Core.Bool.{Bool, true, false, cond, ◌&&◌}
 use mathlib.Core.List.{List, [], ◌∷◌, ◌++◌}
 use mathlib.Core.Logic.{◌⊎◌, inl, inr}
 use native.Mathlib.Omega.{arith}
-use native.Mathlib.Numerals.{add-one}
 use lib.Dec.{eqb}
-use lib.ListN.{length, get_or, drop, length-append}
-use lib.Seq.{drop-cons, drop-length}
+use lib.ListN.{length, get_or, take, drop, length-append}
 use borrow.Author.Tests.{eq-eqb, ne_eqb, eqb-true, lt-leb, le-leb}
+use Rattle.std.proofs.Common.{None, Some, Ok, Err}
+use Rattle.std.specs.Cmp.Lexicographic.{pointwise}
+use Rattle.std.proofs.lemmas.Bool.Decides.{nat_tests}
+use Rattle.refusal.specs.declared.Refusal.{Refusal}
+use Rattle.refusal.specs.declared.Refusal.TheVariants.{MalformedMapping}
 use Rattle.text.specs.Text.{hex_of, digit_value, line_feed}
 use Rattle.text.proofs.Digits.{digit-laws}
 use Rattle.text.proofs.Tests.{clash, and_left, and_right}
 use Rattle.pair.specs.declared.line.Mapping.{Mapping}
-use Rattle.pair.specs.declared.line.Front.TheVariants.{Blank, Line, Malformed}
 use Rattle.pair.specs.Format.{mapping_line, line_bytes}
 use Rattle.pair.specs.Read.{mapping_at, begins_with, is_line, front_of}
 
@@ -41,27 +43,19 @@ pub begins-with : (front rest : List ℕ) → begins_with (front ++ rest) front 
 begins-with [] rest = refl
 begins-with (b ∷ front) rest = rw (eq-eqb b b refl) (begins-with front rest)
 
--- The loop that compares: what is left of both decides, where the first i bytes are equal.
-pub record Comparing (text front : List ℕ) (i : ℕ) : Type 0 where
-  pub within : i ≤ length front
-  pub same : begins_with (drop i text) (drop i front) ≡ begins_with text front
+-- what the library's two tests of a front say: each compares the bytes one by one, as the definition does, one of them the other way round
+eqb-swap : (a b : ℕ) → eqb b a ≡ eqb a b
+eqb-swap a b = grind (arith, nat_tests)
 
-pub comparing : (text front : List ℕ) → Comparing text front 0
-comparing text front = record { within = omega arith; same = refl }
+pub starts-begins : (text front : List ℕ) → pointwise eqb front (take (length front) text) ≡ begins_with text front
+starts-begins text [] = refl
+starts-begins [] (b ∷ front) = refl
+starts-begins (a ∷ text) (b ∷ front) = rw (eqb-swap a b, starts-begins text front)
 
-module _ {text front : List ℕ} {i : ℕ} (k : Comparing text front i) (fits : length front ≤ length text) where
-  next : i < length front
-      → begins_with text front ≡ (eqb (get_or text i 0) (get_or front i 0) && begins_with (drop (suc i) text) (drop (suc i) front))
-  next h = sym k.same ∙ rw (drop-cons text i 0 (omega arith), drop-cons front i 0 h)
-
-  pub comparing-on : i < length front → get_or text i 0 ≡ get_or front i 0 → Comparing text front (i + 1)
-  comparing-on h e = record { within = omega arith; same = rw add-one (sym (next h ∙ rw (eq-eqb _ _ e))) }
-
-  pub comparing-differs : i < length front → (get_or text i 0 ≡ get_or front i 0 → ⊥) → false ≡ begins_with text front
-  comparing-differs h d = sym (next h ∙ rw (ne_eqb _ _ d))
-
-  pub comparing-end : length front ≤ i → true ≡ begins_with text front
-  comparing-end h = let e : i ≡ length front = omega (arith, k.within) in rw (e, drop-length) at k.same
+pub strips-begins : (text front : List ℕ) → pointwise eqb (take (length front) text) front ≡ begins_with text front
+strips-begins text [] = refl
+strips-begins [] (b ∷ front) = refl
+strips-begins (a ∷ text) (b ∷ front) = rw (strips-begins text front)
 
 -- four digits make a number below 65,536
 pub digit-low-at : (l : List ℕ) (i : ℕ) {v : ℕ} → v ≡ digit_value (get_or l i 0) → v < 16
@@ -82,38 +76,48 @@ first-is b (a ∷ text) h = go (eqb a b)
     go false = refl
 
 module _ (text : List ℕ) (some : 0 < length text) where
-  pub front-blank : get_or text 0 0 ≡ line_feed → Blank ≡ front_of text
+  pub front-blank : get_or text 0 0 ≡ line_feed → Ok None ≡ front_of text
   unfolding front_of
   front-blank e = rw (first-is line_feed text some, eq-eqb _ _ e)
 
   module _ (other : get_or text 0 0 ≡ line_feed → ⊥) where
-    as_line : front_of text ≡ cond (is_line text (mapping_at text)) (Line (mapping_at text)) Malformed
+    as_line : front_of text ≡ cond (is_line text (mapping_at text)) (Ok (Some (mapping_at text))) (Err MalformedMapping)
     unfolding front_of
     as_line = rw (first-is line_feed text some, ne_eqb _ _ other)
 
-    pub front-short : length text < line_bytes → Malformed ≡ front_of text
+    pub front-short : length text < line_bytes → Err MalformedMapping ≡ front_of text
     front-short h =
         sym (as_line ∙ rw (begins-short text (mapping_line (mapping_at text)) (omega (arith, line-length (mapping_at text)))))
 
-    pub front_above : (mapping_at text).last < (mapping_at text).first → Malformed ≡ front_of text
+    pub front_above : (mapping_at text).last < (mapping_at text).first → Err MalformedMapping ≡ front_of text
     front_above h = sym (as_line ∙ rw (lt-leb _ _ h) (go (begins_with text (mapping_line (mapping_at text)))))
       where
-        go : (t : Bool) → cond (t && false) (Line (mapping_at text)) Malformed ≡ Malformed
+        go : (t : Bool) → cond (t && false) (Ok (Some (mapping_at text))) (Err MalformedMapping) ≡ Err MalformedMapping
         go true = refl
         go false = refl
 
     module _ (h : (mapping_at text).first ≤ (mapping_at text).last) where
-      pub front-line : begins_with text (mapping_line (mapping_at text)) ≡ true → Line (mapping_at text) ≡ front_of text
+      pub front-line : begins_with text (mapping_line (mapping_at text)) ≡ true → Ok (Some (mapping_at text)) ≡ front_of text
       front-line e = sym (as_line ∙ rw (e, le-leb _ _ h))
 
-      pub front-differs : begins_with text (mapping_line (mapping_at text)) ≡ false → Malformed ≡ front_of text
+      pub front-differs : begins_with text (mapping_line (mapping_at text)) ≡ false → Err MalformedMapping ≡ front_of text
       front-differs e = sym (as_line ∙ rw e)
 
+-- the one refusal of a front
+pub front-refused : (text : List ℕ) (r : Refusal) → Err r ≡ front_of text → r ≡ MalformedMapping
+unfolding front_of
+front-refused text r = go (begins_with text (line_feed ∷ [])) (is_line text (mapping_at text))
+  where
+    go : (u v : Bool) → Err r ≡ cond u (Ok None) (cond v (Ok (Some (mapping_at text))) (Err MalformedMapping)) → r ≡ MalformedMapping
+    go true v e = let z : ◌≡◌ {A = ℕ} 0 1 = cc in absurd (omega arith)
+    go false true e = let z : ◌≡◌ {A = ℕ} 0 1 = cc in absurd (omega arith)
+    go false false e = cc
+
 -- where no empty line stands at the front, a mapping's line does, or the front is malformed
-pub front-other : (text : List ℕ) → 0 < length text → (get_or text 0 0 ≡ line_feed → ⊥) → (Line (mapping_at text) ≡ front_of text) ⊎ (Malformed ≡ front_of text)
+pub front-other : (text : List ℕ) → 0 < length text → (get_or text 0 0 ≡ line_feed → ⊥) → (Ok (Some (mapping_at text)) ≡ front_of text) ⊎ (Err MalformedMapping ≡ front_of text)
 front-other text some other = rw (as_line text some other) (go (is_line text (mapping_at text)))
   where
-    go : (t : Bool) → (Line (mapping_at text) ≡ cond t (Line (mapping_at text)) Malformed) ⊎ (Malformed ≡ cond t (Line (mapping_at text)) Malformed)
+    go : (t : Bool) → (Ok (Some (mapping_at text)) ≡ cond t (Ok (Some (mapping_at text))) (Err MalformedMapping)) ⊎ (Err MalformedMapping ≡ cond t (Ok (Some (mapping_at text))) (Err MalformedMapping))
     go true = inl refl
     go false = inr refl
 

@@ -7,11 +7,12 @@ use native.Mathlib.Omega.{arith}
 use lib.Dec.{eqb, leb}
 use lib.ListN.{length, drop, length-append, length-drop}
 use borrow.Author.Tests.{eq-eqb, ne_eqb, eqb-false, leb-true}
+use Rattle.std.proofs.Common.{Option, None, Some, Result, Ok, Err}
+use Rattle.refusal.specs.declared.Refusal.{Refusal}
+use Rattle.refusal.specs.declared.Refusal.TheVariants.{MalformedMapping}
 use Rattle.word.proofs.Choice.{cond-true, cond-false}
 use Rattle.text.proofs.Tests.{and_left, and_right}
 use Rattle.pair.specs.declared.line.Mapping.{Mapping}
-use Rattle.pair.specs.declared.line.Front.{Front}
-use Rattle.pair.specs.declared.line.Front.TheVariants.{Blank, Line, Malformed}
 use Rattle.text.specs.Text.{line_feed}
 use Rattle.pair.specs.Format.{mapping_line, line_bytes}
 use Rattle.pair.specs.Read.{mapping_at, begins_with, is_line, front_of, listed, with_mapping, following, mappings_from, mappings_below}
@@ -42,21 +43,21 @@ shown text b =
       complete = omega (arith, ap length t, length-append (mapping_line m) (drop line_bytes text), line-length m);
     }
 
-pub line-shown : (text : List ℕ) (m : Mapping) → front_of text ≡ Line m → LineShown text m
+pub line-shown : (text : List ℕ) (m : Mapping) → front_of text ≡ Ok (Some m) → LineShown text m
 unfolding front_of
 line-shown text m = go (begins_with text (line_feed ∷ [])) (is_line text (mapping_at text)) refl
   where
-    go : (u v : Bool) → is_line text (mapping_at text) ≡ v → cond u Blank (cond v (Line (mapping_at text)) Malformed) ≡ Line m → LineShown text m
+    go : (u v : Bool) → is_line text (mapping_at text) ≡ v → cond u (Ok None) (cond v (Ok (Some (mapping_at text))) (Err MalformedMapping)) ≡ Ok (Some m) → LineShown text m
     go true v b e = no_front (cc)
     go false false b e = no_front (cc)
     go false true b e = let r : mapping_at text ≡ m = cc in subst (LineShown text) r (shown text b)
 
 -- .. and an empty line
-pub blank-shown : (text : List ℕ) → front_of text ≡ Blank → text ≡ line_feed ∷ drop 1 text
+pub blank-shown : (text : List ℕ) → front_of text ≡ Ok None → text ≡ line_feed ∷ drop 1 text
 unfolding front_of
 blank-shown text = go (begins_with text (line_feed ∷ [])) (is_line text (mapping_at text)) refl
   where
-    go : (u v : Bool) → begins_with text (line_feed ∷ []) ≡ u → cond u Blank (cond v (Line (mapping_at text)) Malformed) ≡ Blank → text ≡ line_feed ∷ drop 1 text
+    go : (u v : Bool) → begins_with text (line_feed ∷ []) ≡ u → cond u (Ok None) (cond v (Ok (Some (mapping_at text))) (Err MalformedMapping)) ≡ Ok None → text ≡ line_feed ∷ drop 1 text
     go true v b e = begins-is text (line_feed ∷ []) b
     go false true b e = no_front (cc)
     go false false b e = no_front (cc)
@@ -72,20 +73,20 @@ lines_more (suc n) zero text h l = lines_none (suc n) text (omega arith)
 lines_more (suc n) (suc k) text h l =
     go (eqb (length text) 0) refl (front_of text) (lines_more n k (drop 1 text)) (lines_more n k (drop line_bytes text))
   where
-    go : (t : Bool) → eqb (length text) 0 ≡ t → (f : Front)
+    go : (t : Bool) → eqb (length text) 0 ≡ t → (f : Result (Option Mapping) Refusal)
         → (length (drop 1 text) ≤ n → length (drop 1 text) ≤ k → mappings_from n (drop 1 text) ≡ mappings_from k (drop 1 text))
         → (length (drop line_bytes text) ≤ n → length (drop line_bytes text) ≤ k → mappings_from n (drop line_bytes text) ≡ mappings_from k (drop line_bytes text))
         → cond t (listed []) (following (mappings_from n) text f) ≡ cond t (listed []) (following (mappings_from k) text f)
     go true e f a b = refl
-    go false e Blank a b =
+    go false e (Ok None) a b =
         let ne = eqb-false (length text) 0 e in
         let d = length-drop 1 text in
         a (omega arith) (omega arith)
-    go false e (Line m) a b =
+    go false e (Ok (Some m)) a b =
         let ne = eqb-false (length text) 0 e in
         let d = length-drop line_bytes text in
         ap (with_mapping m) (b (omega arith) (omega arith))
-    go false e Malformed a b = refl
+    go false e (Err r) a b = refl
 
 pub mappings-equation : MappingsEquation
 unfolding mappings_below
@@ -96,16 +97,16 @@ mappings-equation text =
     shorter : (n : ℕ) → mappings_from (length text) (drop n text) ≡ mappings_from (length (drop n text)) (drop n text)
     shorter n = let d = length-drop n text in lines_more (length text) (length (drop n text)) (drop n text) (omega arith) (omega arith)
 
-    go : (t : Bool) → eqb (length text) 0 ≡ t → (f : Front)
+    go : (t : Bool) → eqb (length text) 0 ≡ t → (f : Result (Option Mapping) Refusal)
         → cond t (listed []) (following (mappings_from (length text)) text f) ≡ cond t (listed []) (following mappings_below text f)
     go true e f = refl
-    go false e Blank = shorter 1
-    go false e (Line m) = ap (with_mapping m) (shorter line_bytes)
-    go false e Malformed = refl
+    go false e (Ok None) = shorter 1
+    go false e (Ok (Some m)) = ap (with_mapping m) (shorter line_bytes)
+    go false e (Err r) = refl
 
 -- no lines at the end, and else what the front says
 pub lines_end : (text : List ℕ) → length text ≡ 0 → mappings_below text ≡ listed []
 lines_end text h = mappings-equation text ∙ cond-true _ _ (eq-eqb _ _ h)
 
-pub lines-on : (text : List ℕ) {f : Front} → 0 < length text → f ≡ front_of text → mappings_below text ≡ following mappings_below text f
+pub lines-on : (text : List ℕ) {f : Result (Option Mapping) Refusal} → 0 < length text → f ≡ front_of text → mappings_below text ≡ following mappings_below text f
 lines-on text h e = mappings-equation text ∙ cond-false _ _ (ne_eqb (length text) 0 (λ z. omega arith)) ∙ ap (following mappings_below text) (sym e)

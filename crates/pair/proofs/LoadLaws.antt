@@ -1,5 +1,5 @@
 -- Laws of the reader's tests: what the first pass gathered decides each of them.
-use Prim.Native.Nat.{ℕ, suc, max, ◌+◌, ◌-◌, ◌/◌, ◌%◌, ◌<◌, ◌≤◌}
+use Prim.Native.Nat.{ℕ, suc, max, ◌+◌, ◌/◌, ◌%◌, ◌<◌, ◌≤◌}
 use mathlib.Core.Path.{◌≡◌, refl, sym, ap, ◌∙◌}
 use mathlib.Core.Bool.{Bool, true, false, cond, ◌&&◌}
 use mathlib.Core.List.{List, [], ◌∷◌}
@@ -7,13 +7,12 @@ use native.Mathlib.Omega.{arith}
 use native.Mathlib.Decide.{dec_le}
 use native.Mathlib.Numerals.{add-one}
 use lib.Dec.{ltb, leb, leb-zero}
-use lib.ListN.{length, take, drop, length-take, length-drop}
+use lib.ListN.{length, drop, length-take, length-drop}
 use borrow.Author.Tests.{eq-eqb, ne_eqb, lt-leb, le-leb, ltb-true}
 use Rattle.refusal.specs.declared.Refusal.TheVariants.{MemoryTooLong, PastMemory, MalformedMapping, MissingFileWords}
 use Rattle.refusal.specs.Report.{answered}
 use Rattle.memory.specs.Memory.{too_long}
 use Rattle.word.proofs.Choice.{cond-true, cond-false}
-use Rattle.word.proofs.SetsLaws.{rest}
 use Rattle.text.proofs.Tests.{and_left, and_right}
 use Rattle.bigendian.specs.Numbers.{all_words}
 use Rattle.bigendian.proofs.NumberLaws.{words-length}
@@ -22,7 +21,8 @@ use Rattle.records.specs.Region.{span_of, words_between}
 use Rattle.records.specs.Loading.{Loading, refuse_load}
 use Rattle.pair.specs.declared.line.Mapping.{Mapping}
 use Rattle.pair.specs.declared.check.Checked.{Checked}
-use Rattle.pair.specs.declared.check.Checked.TheVariants.{Listed, Malformed}
+use Rattle.std.proofs.Common.{Ok, Err}
+use Rattle.refusal.specs.declared.Refusal.{Refusal}
 use Rattle.pair.specs.Format.{head_line}
 use Rattle.pair.specs.Read.{begins_with, Mappings, listed, malformed, mappings_below, mappings_of}
 use Rattle.pair.specs.Load.{mapped_records, are_there, targets_tested, lines_tested, load_pair_of}
@@ -70,57 +70,63 @@ within-is k len words (m ∷ ms) t =
     ∙ rw (max-both k (target_end m) len, and_assoc (leb k len) (leb (target_end m) len) (all_within len (mapped_records words ms)), s, cond-and (leb (target_end m) len) (all_within len (mapped_records words ms)))
 
 -- What the first pass answers of good lines.
-pub record Summed (ls : Mappings) (count words end : ℕ) : Type 0 where
+pub record Summed (ls : Mappings) (c : Checked) : Type 0 where
   pub mappings : List Mapping
   pub is : ls ≡ listed mappings
-  pub counts : count ≡ length mappings
-  pub names : words ≡ file_ends 0 mappings
-  pub reaches : end ≡ target_ends 0 mappings
+  pub counts : c.count ≡ length mappings
+  pub names : c.words ≡ file_ends 0 mappings
+  pub reaches : c.end ≡ target_ends 0 mappings
 
-pub summed : (ls : Mappings) {count words end : ℕ} {c : Checked} → c ≡ gathered 0 0 0 ls → c ≡ Listed count words end → Summed ls count words end
-summed (listed ms) e f =
-    let z : 0 + length ms ≡ length ms = omega arith in
-    record { mappings = ms; is = refl; counts = cc; names = cc; reaches = cc }
-summed malformed e f = let z : ◌≡◌ {A = ℕ} 0 1 = cc in absurd (omega arith)
+pub summed : (ls : Mappings) {c : Checked} → Ok c ≡ gathered 0 0 0 ls → Summed ls c
+summed (listed ms) {c} e =
+    let k : c ≡ record { count = 0 + length ms; words = file_ends 0 ms; end = target_ends 0 ms } = cc in
+    record {
+      mappings = ms;
+      is = refl;
+      counts = ap (λ (x : Checked). x.count) k ∙ omega arith;
+      names = ap (λ (x : Checked). x.words) k;
+      reaches = ap (λ (x : Checked). x.end) k;
+    }
+summed malformed e = let z : ◌≡◌ {A = ℕ} 0 1 = cc in absurd (omega arith)
 
-pub lines-malformed : (m bin : List ℕ) (ls : Mappings) {c : Checked} → c ≡ gathered 0 0 0 ls → c ≡ Malformed → refuse_load m MalformedMapping ≡ lines_tested m bin ls
-lines-malformed m bin (listed ms) e f = let z : ◌≡◌ {A = ℕ} 0 1 = cc in absurd (omega arith)
-lines-malformed m bin malformed e f = refl
+pub lines-malformed : (m bin : List ℕ) (ls : Mappings) (r : Refusal) → Err r ≡ gathered 0 0 0 ls → refuse_load m r ≡ lines_tested m bin ls
+lines-malformed m bin (listed ms) r e = let z : ◌≡◌ {A = ℕ} 0 1 = cc in absurd (omega arith)
+lines-malformed m bin malformed r e = let f : r ≡ MalformedMapping = cc in rw f
 
 -- The tests of good lines, in their order.
 pub records-count : (words : List ℕ) (ms : List Mapping) → length (mapped_records words ms) ≡ length ms
 records-count words [] = refl
 records-count words (m ∷ ms) = ap suc (records-count words ms)
 
-module _ (m bin : List ℕ) (ls : Mappings) {count words end : ℕ} (s : Summed ls count words end) where
+module _ (m bin : List ℕ) (ls : Mappings) {k : Checked} (s : Summed ls k) where
   pub lines-odd : (length bin % 2 ≡ 0 → ⊥) → refuse_load m MissingFileWords ≡ lines_tested m bin ls
   lines-odd d = rw (s.is, ne_eqb _ _ d)
 
   module _ (even : length bin % 2 ≡ 0) where
-    there : are_there (length bin / 2) s.mappings ≡ leb words (length bin / 2)
+    there : are_there (length bin / 2) s.mappings ≡ leb k.words (length bin / 2)
     there = sym (ap (λ (n : ℕ). leb n (length bin / 2)) s.names ∙ there-is 0 (length bin / 2) s.mappings ∙ rw (leb-zero (length bin / 2)))
 
-    pub lines-missing : length bin / 2 < words → refuse_load m MissingFileWords ≡ lines_tested m bin ls
+    pub lines-missing : length bin / 2 < k.words → refuse_load m MissingFileWords ≡ lines_tested m bin ls
     lines-missing h = rw (s.is, eq-eqb _ _ even, there, lt-leb _ _ h)
 
-    module _ (h : words ≤ length bin / 2) where
+    module _ (h : k.words ≤ length bin / 2) where
       all_there : are_there (length (all_words bin)) s.mappings ≡ true
       all_there = rw (words-length (length bin / 2) bin) (there ∙ le-leb _ _ h)
 
       tested : lines_tested m bin ls ≡ targets_tested m (mapped_records (all_words bin) s.mappings)
       tested = rw (s.is, eq-eqb _ _ even, there, le-leb _ _ h)
 
-      within : all_within (length m) (mapped_records (all_words bin) s.mappings) ≡ leb end (length m)
+      within : all_within (length m) (mapped_records (all_words bin) s.mappings) ≡ leb k.end (length m)
       within = sym (ap (λ (n : ℕ). leb n (length m)) s.reaches ∙ within-is 0 (length m) (all_words bin) s.mappings all_there ∙ rw (leb-zero (length m)))
 
-      pub lines-past : length m < end → refuse_load m PastMemory ≡ lines_tested m bin ls
+      pub lines-past : length m < k.end → refuse_load m PastMemory ≡ lines_tested m bin ls
       lines-past l = sym (tested ∙ cond-false _ _ (within ∙ lt-leb _ _ l))
 
-      module _ (l : end ≤ length m) where
+      module _ (l : k.end ≤ length m) where
         pub lines_fit : Fits (all_words bin) (length m) ls
         lines_fit = rw s.is (all_there, within ∙ le-leb _ _ l)
 
-        pub lines_stored : {n : List ℕ} → n ≡ placed_mappings (all_words bin) m ls → record { answer = answered count; memory = n } ≡ lines_tested m bin ls
+        pub lines_stored : {n : List ℕ} → n ≡ placed_mappings (all_words bin) m ls → record { answer = answered k.count; memory = n } ≡ lines_tested m bin ls
         lines_stored e =
             let p = rw s.is at e in
             let q = s.counts ∙ sym (records-count (all_words bin) s.mappings) in
@@ -137,8 +143,7 @@ module _ (m bin cfg : List ℕ) where
     unfolding load_pair_of mappings_of
     load-unheaded h = sym (cond-false _ _ t ∙ rw h)
 
-    -- the code hands the rest of the text on as a slice
-    pub load-headed : {n : Loading} → begins_with cfg head_line ≡ true
-        → n ≡ lines_tested m bin (mappings_below (take (length cfg - length head_line) (drop (length head_line) cfg))) → n ≡ load_pair_of m bin cfg
+    pub load-headed : {n : Loading} {lines : List ℕ} → begins_with cfg head_line ≡ true → lines ≡ drop (length head_line) cfg
+        → n ≡ lines_tested m bin (mappings_below lines) → n ≡ load_pair_of m bin cfg
     unfolding load_pair_of mappings_of
-    load-headed h e = rw (rest cfg (length head_line)) at e ∙ sym (cond-false _ _ t ∙ rw h)
+    load-headed h l e = rw l at e ∙ sym (cond-false _ _ t ∙ rw h)

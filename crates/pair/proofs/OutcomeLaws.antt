@@ -13,8 +13,7 @@ use Rattle.refusal.specs.declared.Refusal.TheVariants.{MemoryTooLong, PastMemory
 use Rattle.refusal.specs.Report.{answered}
 use Rattle.refusal.proofs.ReportLaws.{no_answer, same_answer, same-refusal}
 use Rattle.memory.specs.Memory.{too_long}
-use Rattle.memory.specs.declared.Admission.{Admission}
-use Rattle.memory.specs.declared.Admission.TheVariants.{Admitted, Barred}
+use Rattle.std.proofs.Common.{Option, None, Some, Result, Ok, Err}
 use Rattle.memory.specs.Bus.{unless_barred}
 use Rattle.memory.proofs.BusLaws.{unless-both}
 use Rattle.word.proofs.Choice.{cond_both, cond_either}
@@ -25,10 +24,8 @@ use Rattle.records.specs.Records.{all_within, overwrite}
 use Rattle.records.specs.Region.{span_of, words_between, region_admission}
 use Rattle.records.specs.Loading.{RefusesOrLoads}
 use Rattle.records.proofs.LoadLaws.{admitted-region, region-length}
-use Rattle.pair.specs.declared.PairAnswer.TheVariants.{Refused, Written}
+use Rattle.pair.specs.declared.Lengths.{Lengths}
 use Rattle.pair.specs.declared.line.Mapping.{Mapping}
-use Rattle.pair.specs.declared.line.Front.{Front}
-use Rattle.pair.specs.declared.line.Front.TheVariants.{Blank, Line, Malformed}
 use Rattle.pair.specs.Format.{head_line}
 use Rattle.pair.specs.Read.{begins_with, front_of, Mappings, listed, malformed, with_mapping, following, mappings_from, mappings_below, mappings_of}
 use Rattle.pair.specs.Load.{mapped_records, has_its_words, lines_tested, load_pair_of}
@@ -38,14 +35,15 @@ use Rattle.pair.specs.Laws.{PairRefusesOrLoads, PairRefusesOrWrites, RightLength
 use Rattle.pair.proofs.LoadLaws.{records-count}
 use Rattle.pair.proofs.WriteLaws.{text-length}
 
+abbrev lengths_of : PairLengths → Lengths
+lengths_of x = record { bin = x.bin; cfg = x.cfg }
+
 pub pair-answers-apart : PairAnswersApart
-pair-answers-apart (Refused a) (Refused b) e = ap Refused (same-refusal a b e)
-pair-answers-apart (Refused a) (Written b c) e = no_answer e
-pair-answers-apart (Written a b) (Refused c) e = no_answer (sym e)
-pair-answers-apart (Written a b) (Written c d) e =
-    let p = ap (λ (x : PairLengths). x.bin) (same_answer e) in
-    let q = ap (λ (x : PairLengths). x.cfg) (same_answer e) in
-    cc
+pair-answers-apart (Err a) (Err b) e = ap Err (same-refusal a b e)
+pair-answers-apart (Err a) (Ok b) e = no_answer e
+pair-answers-apart (Ok a) (Err b) e = no_answer (sym e)
+pair-answers-apart (Ok a) (Ok b) e =
+    ap (λ (x : PairLengths). Ok (lengths_of x)) (same_answer e)
 
 -- a text has no more lines than bytes
 abbrev count_of : Mappings → ℕ
@@ -56,10 +54,10 @@ with-count : (m : Mapping) (ls : Mappings) (n : ℕ) → count_of ls ≤ n → c
 with-count m (listed ms) n h = omega arith
 with-count m malformed n h = omega arith
 
-follow-count : (on : List ℕ → Mappings) (n : ℕ) → ((rest : List ℕ) → count_of (on rest) ≤ n) → (text : List ℕ) (f : Front) → count_of (following on text f) ≤ suc n
-follow-count on n h text Blank = omega (arith, h (drop 1 text))
-follow-count on n h text (Line m) = with-count m (on _) n (h _)
-follow-count on n h text Malformed = omega arith
+follow-count : (on : List ℕ → Mappings) (n : ℕ) → ((rest : List ℕ) → count_of (on rest) ≤ n) → (text : List ℕ) (f : Result (Option Mapping) Refusal) → count_of (following on text f) ≤ suc n
+follow-count on n h text (Ok None) = omega (arith, h (drop 1 text))
+follow-count on n h text (Ok (Some m)) = with-count m (on _) n (h _)
+follow-count on n h text (Err r) = omega arith
 
 from-count : (n : ℕ) (text : List ℕ) → count_of (mappings_from n text) ≤ n
 from-count zero text = omega arith
@@ -118,13 +116,13 @@ answers-lengths m first last bin cfg n = go (region_admission m first last) refl
     text : List ℕ
     text = text_for first (span_of first last)
 
-    go : (a : Admission) → region_admission m first last ≡ a → (t : Bool)
+    go : (a : Result (Unit {0}) Refusal) → region_admission m first last ≡ a → (t : Bool)
         → (unless_barred a (refuse_pair bin cfg)
         (cond t (refuse_pair bin cfg RoomTooSmall) (record { answer = answered (record { bin = length file; cfg = length text }); bin = overwrite bin 0 file; cfg = overwrite cfg 0 text }))
         ).answer ≡ answered n → RightLengths first last n
-    go (Barred r) a t e = no_answer e
-    go Admitted a true e = no_answer e
-    go Admitted a false e =
+    go (Err r) a t e = no_answer e
+    go (Ok u) a true e = no_answer e
+    go (Ok u) a false e =
         let r = admitted-region m first last a in
         let o = r.ordered in
         let l = region-length m first last o r.within in

@@ -6,9 +6,8 @@ use mathlib.Core.Logic.{⊎_elim}
 use native.Mathlib.Omega.{arith}
 use lib.Dec.{ltb}
 use lib.ListN.{length, get_or, take, drop, length-take, length-drop}
-use lib.Seq.{sets, drop-drop, get_or-drop}
+use lib.Seq.{sets}
 use borrow.Author.Tests.{ltb-true}
-use Rattle.word.proofs.SetsLaws.{rest}
 use Rattle.text.proofs.Tests.{and_left, and_right}
 use Rattle.bigendian.specs.Numbers.{all_words}
 use Rattle.bigendian.proofs.NumberLaws.{words-length, words-first, words-own, words-behind}
@@ -16,8 +15,8 @@ use Rattle.records.specs.Records.{overwrite, record_over}
 use Rattle.records.specs.Region.{span_of, words_between}
 use Rattle.records.proofs.OverLaws.{overwrite-sets, overwrite-length}
 use Rattle.records.proofs.PlacedLaws.{split}
+use Rattle.std.proofs.Common.{Some, Ok}
 use Rattle.pair.specs.declared.line.Mapping.{Mapping}
-use Rattle.pair.specs.declared.line.Front.TheVariants.{Line}
 use Rattle.text.specs.Text.{line_feed}
 use Rattle.pair.specs.Format.{line_bytes}
 use Rattle.pair.specs.Read.{mapping_at, front_of, Mappings, listed, malformed, with_mapping, mappings_below}
@@ -73,75 +72,58 @@ placed_on : (words m : List ℕ) (len : ℕ) (mp : Mapping) (ls : Mappings) → 
 placed_on words m len mp (listed ms) k = refl
 placed_on words m len mp malformed k = absurd k
 
--- The second pass has come to byte `at`: what the lines before it name is stored, and what is left fits.
-pub record Storing (words lines m₀ : List ℕ) (at : ℕ) (m : List ℕ) : Type 0 where
-  pub within : at ≤ length lines
+-- The second pass: what the lines before those that are left name is stored, and what is left fits.
+pub record Storing (words lines m₀ left m : List ℕ) : Type 0 where
   pub size : length m ≡ length m₀
-  pub fits : Fits words (length m₀) (mappings_below (drop at lines))
-  pub same : placed_mappings words m (mappings_below (drop at lines)) ≡ placed_mappings words m₀ (mappings_below lines)
+  pub fits : Fits words (length m₀) (mappings_below left)
+  pub same : placed_mappings words m (mappings_below left) ≡ placed_mappings words m₀ (mappings_below lines)
 
-pub storing : (words lines m : List ℕ) → Fits words (length m) (mappings_below lines) → Storing words lines m 0 m
-storing words lines m k = record { within = omega arith; size = refl; fits = k; same = refl }
+pub storing : (words lines m : List ℕ) → Fits words (length m) (mappings_below lines) → Storing words lines m lines m
+storing words lines m k = record { size = refl; fits = k; same = refl }
 
--- What the line at byte `at` shows, where it is not empty.
-pub record LineFits (words lines m₀ : List ℕ) (at : ℕ) (m : List ℕ) (mp : Mapping) : Type 0 where
+-- What the first of the lines that are left shows, where it is not empty.
+pub record LineFits (words lines m₀ left m : List ℕ) (mp : Mapping) : Type 0 where
   pub ordered : mp.first ≤ mp.last
   pub there : mp.last < length words
   pub reach : mp.target + length (words_between words mp.first mp.last) ≤ length m
-  pub complete : at + line_bytes ≤ length lines
-  pub next : (n : List ℕ) → n ≡ overwrite m mp.target (words_between words mp.first mp.last) → Storing words lines m₀ (at + line_bytes) n
+  pub complete : line_bytes ≤ length left
+  pub next : (n : List ℕ) → n ≡ overwrite m mp.target (words_between words mp.first mp.last) → Storing words lines m₀ (drop line_bytes left) n
 
-module _ {words lines m₀ : List ℕ} {at : ℕ} {m : List ℕ} (k : Storing words lines m₀ at m) where
-  pub storing-end : length lines ≤ at → m ≡ placed_mappings words m₀ (mappings_below lines)
-  storing-end h =
-      let l : length (drop at lines) ≡ 0 = omega (arith, length-drop at lines) in
-      ap (placed_mappings words m) (sym (lines_end (drop at lines) l)) ∙ k.same
+module _ {words lines m₀ left m : List ℕ} (k : Storing words lines m₀ left m) where
+  pub storing-end : length left ≡ 0 → m ≡ placed_mappings words m₀ (mappings_below lines)
+  storing-end h = ap (placed_mappings words m) (sym (lines_end left h)) ∙ k.same
 
-  module _ (h : at < length lines) where
-    some : 0 < length (drop at lines)
-    some = omega (arith, length-drop at lines)
-
-    first_byte : get_or (drop at lines) 0 0 ≡ get_or lines at 0
-    first_byte = let e : at + 0 ≡ at = omega arith in rw e at (get_or-drop at lines 0 0)
-
-    pub storing-blank : get_or lines at 0 ≡ line_feed → Storing words lines m₀ (at + 1) m
+  module _ (some : 0 < length left) where
+    pub storing-blank : get_or left 0 0 ≡ line_feed → Storing words lines m₀ (drop 1 left) m
     storing-blank e =
-        let l = lines-on (drop at lines) some (front-blank (drop at lines) some (first_byte ∙ e)) in
-        record {
-          within = omega arith;
-          size = k.size;
-          fits = rw (← drop-drop 1 at lines) (rw l at k.fits);
-          same = rw (← drop-drop 1 at lines) (ap (placed_mappings words m) (sym l) ∙ k.same);
-        }
+        let l = lines-on left some (front-blank left some e) in
+        record { size = k.size; fits = rw l at k.fits; same = ap (placed_mappings words m) (sym l) ∙ k.same }
 
-    line-stored : Line (mapping_at (drop at lines)) ≡ front_of (drop at lines) → LineFits words lines m₀ at m (mapping_at (drop at lines))
+    line-stored : Ok (Some (mapping_at left)) ≡ front_of left → LineFits words lines m₀ left m (mapping_at left)
     line-stored e =
-        let mp = mapping_at (drop at lines) in
-        let ls = mappings_below (drop line_bytes (drop at lines)) in
-        let l = lines-on (drop at lines) some e in
-        let s = line-shown (drop at lines) mp (sym e) in
+        let mp = mapping_at left in
+        let ls = mappings_below (drop line_bytes left) in
+        let l = lines-on left some e in
+        let s = line-shown left mp (sym e) in
         let f = first_fits words (length m₀) mp ls (rw l at k.fits) in
-        let c : at + line_bytes ≤ length lines = omega (arith, s.complete, length-drop at lines) in
         record {
           ordered = s.ordered;
           there = f.there;
           reach = omega (arith, f.reach, k.size);
-          complete = c;
+          complete = s.complete;
           next = λ n q.
               record {
-                within = c;
                 size = ap length q ∙ overwrite-length m mp.target (words_between words mp.first mp.last) (omega (arith, f.reach, k.size)) ∙ k.size;
-                fits = rw (← drop-drop line_bytes at lines) f.later;
-                same = rw (← drop-drop line_bytes at lines, q) (placed_on words m (length m₀) mp ls f.later ∙ ap (placed_mappings words m) (sym l) ∙ k.same);
+                fits = f.later;
+                same = rw q (placed_on words m (length m₀) mp ls f.later ∙ ap (placed_mappings words m) (sym l) ∙ k.same);
               };
         }
 
-    -- the code reads the mapping off a slice
-    pub storing-line : {mp : Mapping} → (get_or lines at 0 ≡ line_feed → ⊥) → mp ≡ mapping_at (take (length lines - at) (drop at lines)) → LineFits words lines m₀ at m mp
+    pub storing-line : {mp : Mapping} → (get_or left 0 0 ≡ line_feed → ⊥) → mp ≡ mapping_at left → LineFits words lines m₀ left m mp
     storing-line d e =
-        rw (e, rest lines at) (
-        ⊎_elim line-stored (λ b. absurd (subst (Fits words (length m₀)) (lines-on (drop at lines) some b) k.fits))
-        (front-other (drop at lines) some (λ z. d (sym first_byte ∙ z))))
+        rw e (
+        ⊎_elim line-stored (λ b. absurd (subst (Fits words (length m₀)) (lines-on left some b) k.fits))
+        (front-other left some d))
 
-    pub line-complete : (get_or lines at 0 ≡ line_feed → ⊥) → at + line_bytes ≤ length lines
+    pub line-complete : (get_or left 0 0 ≡ line_feed → ⊥) → line_bytes ≤ length left
     line-complete d = (storing-line d refl).complete

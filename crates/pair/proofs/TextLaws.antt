@@ -18,8 +18,8 @@ use Rattle.bigendian.specs.Numbers.{all_words}
 use Rattle.records.specs.Records.{all_within}
 use Rattle.records.specs.Loading.{refuse_load, accept_load}
 use Rattle.pair.specs.declared.line.Mapping.{Mapping}
-use Rattle.pair.specs.declared.line.Front.{Front}
-use Rattle.pair.specs.declared.line.Front.TheVariants.{Blank, Line, Malformed}
+use Rattle.std.proofs.Common.{Option, None, Some, Result, Ok, Err}
+use Rattle.refusal.specs.declared.Refusal.{Refusal}
 use Rattle.pair.specs.Format.{head_line, mapping_line, line_bytes, Item, blank, mapping, items_text, mapping_text, mappings_in}
 use Rattle.pair.specs.Read.{number_at, mapping_at, begins_with, front_of, Mappings, listed, malformed, with_mapping, mappings_below, mappings_of}
 use Rattle.pair.specs.Load.{mapped_records, has_its_words, lines_tested, load_pair_of}
@@ -61,11 +61,11 @@ unfolding mapping_line
 not-blank m rest e = omega arith
 
 -- a printed line at the front is read as its mapping
-printed-front : (m : Mapping) → InDigits m → m.first ≤ m.last → (rest : List ℕ) → Line m ≡ front_of (mapping_line m ++ rest)
+printed-front : (m : Mapping) → InDigits m → m.first ≤ m.last → (rest : List ℕ) → Ok (Some m) ≡ front_of (mapping_line m ++ rest)
 printed-front m k o rest =
     let t = mapping_line m ++ rest in
     let some : 0 < length t = omega (arith, line-length m, length-append (mapping_line m) rest) in
-    subst (λ (q : Mapping). q.first ≤ q.last → begins_with t (mapping_line q) ≡ true → Line q ≡ front_of t) (reads-printed m k rest)
+    subst (λ (q : Mapping). q.first ≤ q.last → begins_with t (mapping_line q) ≡ true → Ok (Some q) ≡ front_of t) (reads-printed m k rest)
     (front-line t some (not-blank m rest)) o (begins-with (mapping_line m) rest)
 
 -- The lines of good items are their mappings.
@@ -102,13 +102,13 @@ lines-items (suc n) [] h ms e = record { items = []; good = tt; is = refl }
 lines-items (suc n) (b ∷ text) h ms e =
     go (front_of (b ∷ text)) refl (lines-items n text (omega arith)) (lines-items n (drop line_bytes (b ∷ text)) (omega (arith, length-drop line_bytes (b ∷ text))))
   where
-    go : (f : Front) → front_of (b ∷ text) ≡ f → ((ms : List Mapping) → mappings_below text ≡ listed ms → Itemised text)
+    go : (f : Result (Option Mapping) Refusal) → front_of (b ∷ text) ≡ f → ((ms : List Mapping) → mappings_below text ≡ listed ms → Itemised text)
         → ((ms : List Mapping) → mappings_below (drop line_bytes (b ∷ text)) ≡ listed ms → Itemised (drop line_bytes (b ∷ text))) → Itemised (b ∷ text)
-    go Blank g on past =
+    go (Ok None) g on past =
         let l = lines-on (b ∷ text) (omega arith) (sym g) in
         let k = on ms (sym l ∙ e) in
         record { items = blank ∷ k.items; good = (tt, k.good); is = blank-shown (b ∷ text) g ∙ ap (λ (t : List ℕ). line_feed ∷ t) k.is }
-    go (Line m) g on past =
+    go (Ok (Some m)) g on past =
         let l = lines-on (b ∷ text) (omega arith) (sym g) in
         let s = line-shown (b ∷ text) m g in
         let q = behind m (mappings_below (drop line_bytes (b ∷ text))) ms (sym l ∙ e) in
@@ -118,7 +118,7 @@ lines-items (suc n) (b ∷ text) h ms e =
           good = ((in-digits (b ∷ text) m s.read, s.ordered), k.good);
           is = s.is ∙ ap (λ (t : List ℕ). mapping_line m ++ t) k.is;
         }
-    go Malformed g on past =
+    go (Err r) g on past =
         let l = lines-on (b ∷ text) (omega arith) (sym g) in
         let z : ◌≡◌ {A = ℕ} 0 1 = cc in
         absurd (omega arith)

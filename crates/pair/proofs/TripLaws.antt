@@ -11,8 +11,8 @@ use borrow.Author.Tests.{eq-eqb, lt-ltb, le-ltb}
 use Rattle.refusal.specs.declared.Refusal.TheVariants.{MemoryTooLong, PastMemory, RoomTooSmall}
 use Rattle.refusal.specs.Report.{answered}
 use Rattle.refusal.proofs.ReportLaws.{no_answer, same_answer}
-use Rattle.memory.specs.declared.Admission.{Admission}
-use Rattle.memory.specs.declared.Admission.TheVariants.{Admitted, Barred}
+use Rattle.std.proofs.Common.{Result, Ok, Err}
+use Rattle.refusal.specs.declared.Refusal.{Refusal}
 use Rattle.memory.specs.Bus.{unless_barred}
 use Rattle.memory.specs.Memory.{too_long}
 use Rattle.word.proofs.Choice.{cond-true, cond-false}
@@ -80,12 +80,12 @@ module _ (m : List ℕ) (first last : ℕ) (file text bin cfg : List ℕ) where
   unfolding write_pair_of region-file region-text
   made = go (region_admission m first last) refl
     where
-      go : (a : Admission) → region_admission m first last ≡ a
+      go : (a : Result (Unit {0}) Refusal) → region_admission m first last ≡ a
           → let w = unless_barred a (refuse_pair bin cfg) (writing_pair bin cfg (bytes_of (words_between m first last)) (text_for first (span_of first last))) in
           w.answer ≡ answered (record { bin = length file; cfg = length text })
           → take (length file) w.bin ≡ file → take (length text) w.cfg ≡ text → MadePair m first last file text
-      go Admitted h e f g = let k = written-fits e f g in record { region = admitted-region m first last h; file_is = k.0; text_is = k.1 }
-      go (Barred r) h e f g = no_answer e
+      go (Ok u) h e f g = let k = written-fits e f g in record { region = admitted-region m first last h; file_is = k.0; text_is = k.1 }
+      go (Err r) h e f g = no_answer e
 
 made_pair : {m : List ℕ} {first last : ℕ} {file text : List ℕ} → WrittenPair m first last file text → MadePair m first last file text
 made_pair {m} {first} {last} {file} {text} k = made m first last file text k.bin k.cfg k.answer k.file_bytes k.text_bytes_written

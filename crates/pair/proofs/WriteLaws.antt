@@ -10,7 +10,7 @@ use borrow.Author.Tests.{lt-ltb, le-ltb}
 use Rattle.refusal.specs.declared.Refusal.{Refusal}
 use Rattle.refusal.specs.declared.Refusal.TheVariants.{RoomTooSmall}
 use Rattle.refusal.specs.Report.{answered}
-use Rattle.memory.specs.declared.Admission.TheVariants.{Admitted, Barred}
+use Rattle.std.proofs.Common.{Ok, Err}
 use Rattle.bigendian.specs.Numbers.{bytes_of, put_words}
 use Rattle.bigendian.proofs.NumberLaws.{bytes-length, put-fits}
 use Rattle.records.specs.Records.{overwrite}
@@ -79,11 +79,11 @@ module _ (first : ℕ) (region bin cfg : List ℕ) where
 
 -- The writer's ways.
 module _ (m : List ℕ) (first last : ℕ) (bin cfg : List ℕ) where
-  pub write-barred : {r : Refusal} → region_admission m first last ≡ Barred r → refuse_pair bin cfg r ≡ write_pair_of m first last bin cfg
+  pub write-barred : {r : Refusal} → region_admission m first last ≡ Err r → refuse_pair bin cfg r ≡ write_pair_of m first last bin cfg
   unfolding write_pair_of
   write-barred e = rw e
 
-  pub write-admitted : region_admission m first last ≡ Admitted → {w : PairWriting}
+  pub write-admitted : region_admission m first last ≡ Ok (tt {0}) → {w : PairWriting}
       → w ≡ writing_pair bin cfg (bytes_of (words_between m first last)) (text_for first (length (words_between m first last))) → w ≡ write_pair_of m first last bin cfg
   unfolding write_pair_of
   write-admitted e f =

@@ -1,10 +1,10 @@
 -- A mapping text, read from its front: "15, no first line, or a line not of this form or with its first word above its last". Which texts
 -- are lines is said by printing: `TakesTexts` of Laws has it without any reading.
-use Rattle.std.specs.Prelude.{ℕ, zero, suc, ◌+◌, ◌*◌, Bool, true, false, cond, ◌&&◌, List, [], ◌∷◌, eqb, leb, length, get_or, drop}
+use Rattle.std.specs.Prelude.{ℕ, zero, suc, ◌+◌, ◌*◌, Bool, true, false, cond, ◌&&◌, List, [], ◌∷◌, eqb, leb, length, get_or, drop, Option, None, Some, Result, Ok, Err}
 use Rattle.text.specs.Text.{digit_value, line_feed}
 use Rattle.pair.specs.declared.line.Mapping.{Mapping}
-use Rattle.pair.specs.declared.line.Front.{Front}
-use Rattle.pair.specs.declared.line.Front.TheVariants.{Blank, Line, Malformed}
+use Rattle.refusal.specs.declared.Refusal.{Refusal}
+use Rattle.refusal.specs.declared.Refusal.TheVariants.{MalformedMapping}
 use Rattle.pair.specs.Format.{head_line, mapping_line, line_bytes}
 
 -- the number whose four digits stand at a place, if digits stand there
@@ -29,11 +29,11 @@ begins_with (a ∷ text) (b ∷ front) = eqb a b && begins_with text front
 abbrev pub is_line : List ℕ → Mapping → Bool
 is_line text m = begins_with text (mapping_line m) && leb m.first m.last
 
--- what stands at the front: an empty line, a mapping's line, or neither
-unfoldable pub front_of : List ℕ → Front
+-- what stands at the front: an empty line, as None, a mapping's line, or neither
+unfoldable pub front_of : List ℕ → Result (Option Mapping) Refusal
 front_of text =
-    cond (begins_with text (line_feed ∷ [])) Blank
-    (cond (is_line text (mapping_at text)) (Line (mapping_at text)) Malformed)
+    cond (begins_with text (line_feed ∷ [])) (Ok None)
+    (cond (is_line text (mapping_at text)) (Ok (Some (mapping_at text))) (Err MalformedMapping))
 
 -- the mappings of all lines below the first one, or that a line is malformed
 pub data Mappings : Type 0 where
@@ -45,10 +45,10 @@ with_mapping m (listed ms) = listed (m ∷ ms)
 with_mapping m malformed = malformed
 
 -- a line is followed by the rest of the text, which `on` reads
-abbrev pub following : (List ℕ → Mappings) → List ℕ → Front → Mappings
-following on text Blank = on (drop 1 text)
-following on text (Line m) = with_mapping m (on (drop line_bytes text))
-following on text Malformed = malformed
+abbrev pub following : (List ℕ → Mappings) → List ℕ → Result (Option Mapping) Refusal → Mappings
+following on text (Ok None) = on (drop 1 text)
+following on text (Ok (Some m)) = with_mapping m (on (drop line_bytes text))
+following on text (Err e) = malformed
 
 -- by at most n lines: each has a byte or more, so that n runs out only at the end of the text. `MappingsEquation` says the same without n.
 abbrev pub mappings_from : ℕ → List ℕ → Mappings

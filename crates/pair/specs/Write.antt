@@ -1,6 +1,6 @@
 -- The writer of pairs: "A writing is `[mapping]`, one line from file word 0 and a file of just the region; it answers both lengths, leaves the
 -- room past them". "13, not 5, for either room of a written pair", after 1, 7 and 11.
-use Rattle.std.specs.Prelude.{ℕ, ◌-◌, cond, ◌||◌, List, [], ◌∷◌, ltb, length}
+use Rattle.std.specs.Prelude.{ℕ, ◌-◌, cond, ◌||◌, List, [], ◌∷◌, ltb, length, Result}
 use Rattle.refusal.specs.declared.Refusal.{Refusal}
 use Rattle.refusal.specs.declared.Refusal.TheVariants.{RoomTooSmall}
 use Rattle.refusal.specs.Refusals.{refusal_number}
@@ -9,7 +9,7 @@ use Rattle.memory.specs.Bus.{unless_barred}
 use Rattle.bigendian.specs.Numbers.{bytes_of}
 use Rattle.records.specs.Records.{overwrite}
 use Rattle.records.specs.Region.{span_of, words_between, region_admission}
-use Rattle.pair.specs.declared.PairAnswer.{PairAnswer}
+use Rattle.pair.specs.declared.Lengths.{Lengths}
 use Rattle.pair.specs.Format.{mapping, mapping_text}
 use Rattle.pair.specs.Answer.{PairLengths, pair_reported}
 
@@ -44,5 +44,5 @@ write_pair_of m first last bin cfg =
     (writing_pair bin cfg (bytes_of (words_between m first last)) (text_for first (span_of first last)))
 
 -- the outcome that the code's answer and the rooms at its return stand for: the writer's contract says that it is `write_pair_of`
-abbrev pub wrote_pair : PairAnswer → List ℕ → List ℕ → PairWriting
+abbrev pub wrote_pair : Result Lengths Refusal → List ℕ → List ℕ → PairWriting
 wrote_pair r bin cfg = record { answer = pair_reported r; bin = bin; cfg = cfg }

@@ -11,22 +11,19 @@ ghost use Rattle.pair.specs.Read.{mappings_below};
 ghost use Rattle.pair.specs.Load.{lines_tested, load_pair_of};
 ghost use Rattle.pair.specs.Write.{text_for, writing_pair, wrote_pair, write_pair_of};
 
-use memory::Admission;
-use records::LoadAnswer;
 use refusal::Refusal;
 
 mod check;
 mod line;
 mod store;
 
-use crate::check::Checked;
 use crate::line::Mapping;
 
-// The lengths of the flat file and of the text, or why neither was written.
+// The lengths of the flat file and of the text.
 #[derive(Clone, Copy)]
-pub enum PairAnswer {
-    Refused(Refusal),
-    Written { bin: usize, cfg: usize },
+pub struct Lengths {
+    pub bin: usize,
+    pub cfg: usize,
 }
 
 // The first line of every text.
@@ -38,41 +35,34 @@ const HEAD: [u8; 10] = *b"[mapping]\n";
 const TEXT_BYTES: usize = HEAD_BYTES + line::LINE_BYTES;
 
 // Reads by the lines behind a text's first one. Nothing is stored before every test has passed: each is over all lines.
-fn load_lines(mem: &mut [u16], bin: &[u8], lines: &[u8]) -> LoadAnswer
+fn load_lines(mem: &mut [u16], bin: &[u8], lines: &[u8]) -> Result<usize, Refusal>
     ensures { loaded result mem.new ≡ lines_tested mem.old bin.now (mappings_below lines.now) }
 {
-    let checked = check::check_lines(lines);
-    let Checked::Listed { count, words, end } = checked else {
-        return LoadAnswer::Refused(Refusal::MalformedMapping);
-    };
+    let checked = check::check_lines(lines)?;
     if bin.len() % 2 != 0 {
-        return LoadAnswer::Refused(Refusal::MissingFileWords);
+        return Err(Refusal::MissingFileWords);
     }
-    if bin.len() / 2 < words {
-        return LoadAnswer::Refused(Refusal::MissingFileWords);
+    if bin.len() / 2 < checked.words {
+        return Err(Refusal::MissingFileWords);
     }
-    if mem.len() < end {
-        return LoadAnswer::Refused(Refusal::PastMemory);
+    if mem.len() < checked.end {
+        return Err(Refusal::PastMemory);
     }
     store::store_lines(lines, bin, mem);
-    LoadAnswer::Loaded(count)
+    Ok(checked.count)
 }
 
 // Reads a pair into memory.
-pub fn load_pair(mem: &mut [u16], bin: &[u8], cfg: &[u8]) -> LoadAnswer
+pub fn load_pair(mem: &mut [u16], bin: &[u8], cfg: &[u8]) -> Result<usize, Refusal>
     ensures { loaded result mem.new ≡ load_pair_of mem.old bin.now cfg.now }
 {
-    let long = memory::is_too_long(mem);
-    if long {
-        return LoadAnswer::Refused(Refusal::MemoryTooLong);
+    if memory::is_too_long(mem) {
+        return Err(Refusal::MemoryTooLong);
     }
-    let head = HEAD;
-    let headed = line::begins_with(cfg, &head);
-    if headed {
-        load_lines(mem, bin, &cfg[HEAD_BYTES..])
-    } else {
-        LoadAnswer::Refused(Refusal::MalformedMapping)
-    }
+    let Some(lines) = cfg.strip_prefix(&HEAD) else {
+        return Err(Refusal::MalformedMapping);
+    };
+    load_lines(mem, bin, lines)
 }
 
 // The text of a region of so many words that begins at the address `first`.
@@ -80,8 +70,7 @@ fn put_text(first: u16, words: usize, cfg: &mut [u8])
     requires { (0 < words) × (words ≤ 65536) × (text_bytes ≤ length cfg.old) }
     ensures { cfg.new ≡ overwrite cfg.old 0 (text_for first words) }
 {
-    let head = HEAD;
-    cfg[..HEAD_BYTES].copy_from_slice(&head);
+    cfg[..HEAD_BYTES].copy_from_slice(&HEAD);
     let line = line::line_of(Mapping {
         first: 0,
         last: (words - 1) as u16,
@@ -91,35 +80,43 @@ fn put_text(first: u16, words: usize, cfg: &mut [u8])
 }
 
 // The pair of a region that begins at the address `first`.
-fn put_region(first: u16, region: &[u16], bin: &mut [u8], cfg: &mut [u8]) -> PairAnswer
+fn put_region(
+    first: u16,
+    region: &[u16],
+    bin: &mut [u8],
+    cfg: &mut [u8],
+) -> Result<Lengths, Refusal>
     requires { (0 < length region.now) × (length region.now ≤ 65536) }
     ensures { wrote_pair result bin.new cfg.new
         ≡ writing_pair bin.old cfg.old (bytes_of region.now) (text_for first (length region.now)) }
 {
     let size = region.len() * 2;
     if bin.len() < size {
-        return PairAnswer::Refused(Refusal::RoomTooSmall);
+        return Err(Refusal::RoomTooSmall);
     }
     if cfg.len() < TEXT_BYTES {
-        return PairAnswer::Refused(Refusal::RoomTooSmall);
+        return Err(Refusal::RoomTooSmall);
     }
     bigendian::put_words(bin, 0, region);
     put_text(first, region.len(), cfg);
-    PairAnswer::Written {
+    Ok(Lengths {
         bin: size,
         cfg: TEXT_BYTES,
-    }
+    })
 }
 
 // Writes the words from `first` to `last` as a pair. Both rooms past what is written stay.
-pub fn write_pair(mem: &[u16], first: u16, last: u16, bin: &mut [u8], cfg: &mut [u8]) -> PairAnswer
+pub fn write_pair(
+    mem: &[u16],
+    first: u16,
+    last: u16,
+    bin: &mut [u8],
+    cfg: &mut [u8],
+) -> Result<Lengths, Refusal>
     ensures { wrote_pair result bin.new cfg.new
         ≡ write_pair_of mem.now first last bin.old cfg.old }
 {
-    let admission = records::admit_region(mem, first, last);
-    if let Admission::Barred(refusal) = admission {
-        return PairAnswer::Refused(refusal);
-    }
+    records::admit_region(mem, first, last)?;
     let start = first as usize;
     let end = last as usize + 1;
     put_region(first, &mem[start..end], bin, cfg)

@@ -2,7 +2,9 @@
 // numbers are taken from their places, printed, and compared, so that their reading need not be strict.
 ghost use Rattle.std.specs.Prelude.{◌≡◌, ◌+◌, ◌≤◌, ◌<◌, length};
 ghost use Rattle.pair.specs.Format.{mapping_line, line_bytes};
-ghost use Rattle.pair.specs.Read.{number_at, mapping_at, begins_with, front_of};
+ghost use Rattle.pair.specs.Read.{number_at, mapping_at, front_of};
+
+use refusal::Refusal;
 
 // The words of the flat file from `first` to `last` go to the address `target` and on.
 #[derive(Clone, Copy)]
@@ -10,14 +12,6 @@ pub(crate) struct Mapping {
     pub first: u16,
     pub last: u16,
     pub target: u16,
-}
-
-// What stands at the front of the lines.
-#[derive(Clone, Copy)]
-pub(crate) enum Front {
-    Blank,
-    Line(Mapping),
-    Malformed,
 }
 
 pub(crate) const LINE_FEED: u8 = b'\n';
@@ -31,18 +25,15 @@ const LAST_AT: usize = 9;
 
 const TARGET_AT: usize = 17;
 
-// A mapping as its line.
+// A mapping as its line: its numbers in the places of the form.
 pub(crate) fn line_of(mapping: Mapping) -> [u8; 22]
     ensures { result ≡ mapping_line mapping }
 {
-    let first = text::hex(mapping.first);
-    let last = text::hex(mapping.last);
-    let target = text::hex(mapping.target);
-    [
-        b'$', first[0], first[1], first[2], first[3], b' ', b'-', b' ', b'$', last[0], last[1],
-        last[2], last[3], b' ', b'=', b' ', b'$', target[0], target[1], target[2], target[3],
-        LINE_FEED,
-    ]
+    let mut line = *b"$0000 - $0000 = $0000\n";
+    line[FIRST_AT..FIRST_AT + 4].copy_from_slice(&text::hex(mapping.first));
+    line[LAST_AT..LAST_AT + 4].copy_from_slice(&text::hex(mapping.last));
+    line[TARGET_AT..TARGET_AT + 4].copy_from_slice(&text::hex(mapping.target));
+    line
 }
 
 // The number of four digits at a place.
@@ -68,43 +59,24 @@ pub(crate) fn mapping_at(lines: &[u8]) -> Mapping
     }
 }
 
-// Whether a text begins with another.
-pub(crate) fn begins_with(text: &[u8], front: &[u8]) -> bool
-    ensures { result ≡ begins_with text.now front.now }
-{
-    if text.len() < front.len() {
-        return false;
-    }
-    let mut i = 0;
-    while i < front.len() {
-        if text[i] != front[i] {
-            return false;
-        }
-        i += 1;
-    }
-    true
-}
-
-// What stands at the front of the lines, of which there is a byte or more.
-pub(crate) fn read_front(lines: &[u8]) -> Front
+// What stands at the front of the lines, of which there is a byte or more: a mapping's line, or, as None, an empty one.
+pub(crate) fn read_front(lines: &[u8]) -> Result<Option<Mapping>, Refusal>
     requires { 0 < length lines.now }
     ensures { result ≡ front_of lines.now }
 {
     if lines[0] == LINE_FEED {
-        return Front::Blank;
+        return Ok(None);
     }
     if lines.len() < LINE_BYTES {
-        return Front::Malformed;
+        return Err(Refusal::MalformedMapping);
     }
     let mapping = mapping_at(lines);
     if mapping.last < mapping.first {
-        return Front::Malformed;
+        return Err(Refusal::MalformedMapping);
     }
-    let printed = line_of(mapping);
-    let same = begins_with(lines, &printed);
-    if same {
-        Front::Line(mapping)
+    if lines.starts_with(&line_of(mapping)) {
+        Ok(Some(mapping))
     } else {
-        Front::Malformed
+        Err(Refusal::MalformedMapping)
     }
 }

@@ -24,13 +24,13 @@ pub(crate) fn store_lines(lines: &[u8], bin: &[u8], mem: &mut [u16])
     requires { Fits (all_words bin.now) (length mem.old) (mappings_below lines.now) }
     ensures { mem.new ≡ placed_mappings (all_words bin.now) mem.old (mappings_below lines.now) }
 {
-    let mut at = 0;
-    while at < lines.len() {
-        if lines[at] == line::LINE_FEED {
-            at += 1;
+    let mut rest = lines;
+    while !rest.is_empty() {
+        if rest[0] == line::LINE_FEED {
+            rest = &rest[1..];
         } else {
-            store_mapping(bin, line::mapping_at(&lines[at..]), mem);
-            at += line::LINE_BYTES;
+            store_mapping(bin, line::mapping_at(rest), mem);
+            rest = &rest[line::LINE_BYTES..];
         }
     }
 }

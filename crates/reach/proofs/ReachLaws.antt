@@ -6,19 +6,16 @@ use mathlib.Core.List.{List}
 use mathlib.Core.Logic.{◌↔◌, ◌⊎◌, inl, inr}
 use lib.Dec.{ltb}
 use lib.ListN.{length}
+use Rattle.std.proofs.Common.{Result, Ok, Err, Option, None, Some}
+use Rattle.refusal.specs.declared.Refusal.{Refusal}
 use Rattle.refusal.specs.declared.Refusal.TheVariants.{TooManyEntries, WrongSetLength}
 use Rattle.refusal.specs.Refusals.{refusal_number}
 use Rattle.refusal.specs.Report.{Report, refused, answered}
 use Rattle.refusal.proofs.ReportLaws.{no_answer, same_answer, same-refusal, told-apart}
-use Rattle.memory.specs.declared.Admission.{Admission}
-use Rattle.memory.specs.declared.Admission.TheVariants.{Admitted, Barred}
 use Rattle.memory.specs.Bus.{Bus, read_of, admission_of, unless_barred}
-use Rattle.bitset.specs.declared.Lowest.{Lowest}
-use Rattle.bitset.specs.declared.Lowest.TheVariants.{Nothing, At}
 use Rattle.bitset.specs.Bits.{contains, in_either, LowestOrNone, none, lowest_at, lowest_or_none, is_wrong_length, SetBuffer}
 use Rattle.bitset.proofs.SetLaws.{same-members}
 use Rattle.reach.specs.declared.Node.{Node}
-use Rattle.reach.specs.declared.ReachAnswer.TheVariants.{Refused, Built}
 use Rattle.reach.specs.Ways.{node_at, successors}
 use Rattle.reach.specs.Paths.{Reached}
 use Rattle.reach.specs.Summary.{SetSummary, summary_of}
@@ -39,21 +36,21 @@ reached-set-is-one next entries clear set clear' set' k k' =
     }
 
 -- the tests of the call: it is refused whatever it would answer, or it answers that
-Refuses : Admission → Bool → Bool → Type 0
+Refuses : Result (Unit {0}) Refusal → Bool → Bool → Type 0
 Refuses a many wrong =
     ((n : ℕ) × ((x : Report SetSummary) → tested a many wrong x ≡ refused n)) ⊎ ((x : Report SetSummary) → tested a many wrong x ≡ x)
   where
-    tested : Admission → Bool → Bool → Report SetSummary → Report SetSummary
+    tested : Result (Unit {0}) Refusal → Bool → Bool → Report SetSummary → Report SetSummary
     tested a many wrong x =
         unless_barred a (λ r. refused (refusal_number r))
         (cond many (refused (refusal_number TooManyEntries)) (cond wrong (refused (refusal_number WrongSetLength)) x))
 
-refuses : (a : Admission) (many wrong : Bool) → Refuses a many wrong
+refuses : (a : Result (Unit {0}) Refusal) (many wrong : Bool) → Refuses a many wrong
 unfolding Refuses
-refuses (Barred r) many wrong = inl (refusal_number r, λ x. refl)
-refuses Admitted true wrong = inl (refusal_number TooManyEntries, λ x. refl)
-refuses Admitted false true = inl (refusal_number WrongSetLength, λ x. refl)
-refuses Admitted false false = inr (λ x. refl)
+refuses (Err r) many wrong = inl (refusal_number r, λ x. refl)
+refuses (Ok u) true wrong = inl (refusal_number TooManyEntries, λ x. refl)
+refuses (Ok u) false true = inl (refusal_number WrongSetLength, λ x. refl)
+refuses (Ok u) false false = inr (λ x. refl)
 
 module _ (b : Bus) (entries clear set : List ℕ) where
   -- a refused call moved nothing, and one that answers holds the set
@@ -117,22 +114,22 @@ summary-laws =
     }
 
 -- what a term stands for, read back
-lowest_back : LowestOrNone → Lowest
-lowest_back none = Nothing
-lowest_back (lowest_at a) = At a
+lowest_back : LowestOrNone → Option ℕ
+lowest_back none = None
+lowest_back (lowest_at a) = Some a
 
-lowest-back : (l : Lowest) → lowest_back (lowest_or_none l) ≡ l
+lowest-back : (l : Option ℕ) → lowest_back (lowest_or_none l) ≡ l
 unfolding lowest_back
-lowest-back Nothing = refl
-lowest-back (At a) = refl
+lowest-back None = refl
+lowest-back (Some a) = refl
 
 pub reach-answers-apart : ReachAnswersApart
-reach-answers-apart (Refused a) (Refused b) e = ap Refused (same-refusal a b e)
-reach-answers-apart (Refused a) (Built n m l) e = no_answer e
-reach-answers-apart (Built n m l) (Refused b) e = no_answer (sym e)
-reach-answers-apart (Built n m l) (Built n' m' l') e =
-    let s = same_answer e in
-    let p : n ≡ n' = ap (λ (x : SetSummary). x.addresses) s in
-    let q : m ≡ m' = ap (λ (x : SetSummary). x.writers) s in
-    let r : l ≡ l' = told-apart lowest_or_none lowest_back lowest-back l l' (ap (λ (x : SetSummary). x.lowest_writer) s) in
-    λ i. Built (p i) (q i) (r i)
+reach-answers-apart (Err a) (Err b) e = ap Err (same-refusal a b e)
+reach-answers-apart (Err a) (Ok s) e = no_answer e
+reach-answers-apart (Ok s) (Err b) e = no_answer (sym e)
+reach-answers-apart (Ok s) (Ok s') e =
+    let t = same_answer e in
+    let p : s.addresses ≡ s'.addresses = ap (λ (x : SetSummary). x.addresses) t in
+    let q : s.writers ≡ s'.writers = ap (λ (x : SetSummary). x.writers) t in
+    let r : s.lowest ≡ s'.lowest = told-apart lowest_or_none lowest_back lowest-back s.lowest s'.lowest (ap (λ (x : SetSummary). x.lowest_writer) t) in
+    λ i. Ok (record { addresses = p i; writers = q i; lowest = r i })

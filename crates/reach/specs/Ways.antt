@@ -1,11 +1,9 @@
 -- Document 02, [4]: where a path goes on from an instruction. A node is an address, and the D with which the instruction there is reached. The memory
 -- is a reader, from an address to the word there.
-use Rattle.std.specs.Prelude.{ℕ, Bool, false, cond, ◌||◌, List, [], ◌∷◌}
+use Rattle.std.specs.Prelude.{ℕ, Bool, false, cond, ◌||◌, List, [], ◌∷◌, Option, None, Some}
 use Rattle.word.specs.Word.{wrap_add}
 use Rattle.decode.specs.declared.Instr.{Instr}
 use Rattle.decode.specs.declared.Instr.TheVariants.{Hlt, Control, Jump, Single, Gswd, Nop, Sin, Shift, Register, Branch, Store, Read}
-use Rattle.decode.specs.declared.Decoded.{Decoded}
-use Rattle.decode.specs.declared.Decoded.TheVariants.{Unspecified, Known}
 use Rattle.decode.specs.declared.rows.Row.{Row}
 use Rattle.decode.specs.Fields.{branch_target, is_always, is_nopp, Return, return_of, has_return, jump_target}
 use Rattle.decode.specs.Decode.{writes_r7, decode_at}
@@ -51,9 +49,9 @@ instruction_ways read n row (Store s d) = onward_of n row ∷ []
 instruction_ways read n row (Read r s d) = onward_of n row ∷ []
 
 -- "HLT, an unspecified form and any other row that writes its result to R7 end a path"
-abbrev pub decoded_ways : (ℕ → ℕ) → Node → Decoded → List Node
-decoded_ways read n Unspecified = []
-decoded_ways read n (Known i) =
+abbrev pub decoded_ways : (ℕ → ℕ) → Node → Option Instr → List Node
+decoded_ways read n None = []
+decoded_ways read n (Some i) =
     cond ((row_of i n.double).halts || writes_r7 i) [] (instruction_ways read n (row_of i n.double) i)
 
 -- the nodes that a node leads to
@@ -62,9 +60,9 @@ successors read n = decoded_ways read n (decode_at read n.address n.double)
 
 -- the instruction at a node is "any other row that writes its result to R7": a stack read into R7 is one with D clear, and under D an
 -- unspecified form
-abbrev pub decoded_writes : Decoded → Bool
-decoded_writes Unspecified = false
-decoded_writes (Known i) = writes_r7 i
+abbrev pub decoded_writes : Option Instr → Bool
+decoded_writes None = false
+decoded_writes (Some i) = writes_r7 i
 
 unfoldable pub writes_at : (ℕ → ℕ) → Node → Bool
 writes_at read n = decoded_writes (decode_at read n.address n.double)

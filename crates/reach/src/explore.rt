@@ -1,6 +1,6 @@
 // The exploration: every node is marked once, when a path first leads there; an address that is to be followed up waits on a stack. The addresses of rows
 // that write R7 are noted where they are met, so that no instruction is decoded again for the summary.
-ghost use Rattle.std.specs.Prelude.{◌≡◌, true, ◌≤◌, length, replicate};
+ghost use Rattle.std.specs.Prelude.{◌≡◌, true, ◌≤◌, ◌<◌, replicate};
 ghost use Rattle.memory.specs.Bus.{bus_on, read_of};
 ghost use Rattle.memory.specs.Near.{Near};
 ghost use Rattle.bitset.specs.Bits.{size_of};
@@ -10,14 +10,22 @@ ghost use Rattle.reach.specs.Reach.{ReachedSet};
 
 use crate::ways::Ways;
 use crate::{Node, ways};
+use bitset::WORDS;
 use memory::map::{Board, Range};
 use memory::near;
 
 // An address waits at most once, since it is put there when it is marked.
 const STACK: usize = 65536;
 
+// The addresses that wait, the last one on top.
+#[derive(Drop)]
+struct Stack {
+    waiting: [u16; STACK],
+    depth: usize,
+}
+
 // A node marked; whether it was not marked before.
-fn mark(clear: &mut [u64], set: &mut [u64], node: Node) -> bool
+fn mark(clear: &mut [u64; WORDS], set: &mut [u64; WORDS], node: Node) -> bool
     ensures { Marks clear.old set.old clear.new set.new node result }
 {
     if node.double {
@@ -27,16 +35,16 @@ fn mark(clear: &mut [u64], set: &mut [u64], node: Node) -> bool
 }
 
 // An address marked with D clear; where it was not marked before, it waits on the stack.
-fn push(clear: &mut [u64], stack: &mut [u16; STACK], depth: usize, address: u16) -> usize
-    requires { (length clear.old ≡ 1024) × (depth ≤ size_of clear.old) }
-    ensures { Pushes clear.old clear.new stack.old stack.new depth result address }
+#[tactic(auto, using(std::proofs::lemmas::Bool::Decides::nat_tests, crate::proofs::MarkLaws::fewer))]
+fn push(clear: &mut [u64; WORDS], stack: &mut Stack, address: u16)
+    requires { stack.old.depth ≤ size_of clear.old }
+    ensures { Pushes clear.old clear.new stack.old.waiting stack.new.waiting stack.old.depth stack.new.depth address }
 {
     let new = bitset::insert(clear, address);
     if new {
-        stack[depth] = address;
-        return depth + 1;
+        stack.waiting[stack.depth] = address;
+        stack.depth += 1;
     }
-    depth
 }
 
 // From an address on, as long as the path leads to a node that is new: what else it leads to waits on the stack.
@@ -44,17 +52,15 @@ fn follow(
     board: Board,
     first: Range,
     mem: &[u16],
-    clear: &mut [u64],
-    set: &mut [u64],
-    writers: &mut [u64],
-    stack: &mut [u16; STACK],
-    below: usize,
+    clear: &mut [u64; WORDS],
+    set: &mut [u64; WORDS],
+    writers: &mut [u64; WORDS],
+    stack: &mut Stack,
     from: u16,
-) -> usize
-    requires { (marked clear.old set.old (clear_at from) ≡ true) × Exploring (read_of (bus_on board mem.now)) (λ n. n ≡ clear_at from) clear.old set.old writers.old stack.old below × Near board first }
-    ensures { Exploring (read_of (bus_on board mem.now)) Idle clear.new set.new writers.new stack.new result × Grown (successors (read_of (bus_on board mem.now))) clear.old set.old clear.new set.new below result }
+)
+    requires { (marked clear.old set.old (clear_at from) ≡ true) × Exploring (read_of (bus_on board mem.now)) (λ n. n ≡ clear_at from) clear.old set.old writers.old stack.old.waiting stack.old.depth × Near board first }
+    ensures { Exploring (read_of (bus_on board mem.now)) Idle clear.new set.new writers.new stack.new.waiting stack.new.depth × Grown (successors (read_of (bus_on board mem.now))) clear.old set.old clear.new set.new stack.old.depth stack.new.depth }
 {
-    let mut depth = below;
     let mut near = first;
     let mut node = Node {
         address: from,
@@ -66,24 +72,25 @@ fn follow(
         let instr = decode::instruction(fetched.word % 1024);
         let decoded = decode::specified_at(board, near, mem, node.address, instr, node.double);
         let ways = ways::ways_of(board, near, mem, node, decoded);
+        // Each way marks its own node: with one mark for both the compiler packs a node into one number, which takes 5 machine instructions more a node.
         match ways {
-            Ways::End => return depth,
+            Ways::End => return,
             Ways::Writes => {
                 bitset::insert(writers, node.address);
-                return depth;
+                return;
             }
             Ways::One(next) => {
                 let new = mark(clear, set, next);
                 if !new {
-                    return depth;
+                    return;
                 }
                 node = next;
             }
             Ways::Two(next, target) => {
-                depth = push(clear, stack, depth, target);
+                push(clear, stack, target);
                 let new = mark(clear, set, next);
                 if !new {
-                    return depth;
+                    return;
                 }
                 node = next;
             }
@@ -96,28 +103,26 @@ pub(crate) fn explore(
     board: Board,
     mem: &[u16],
     entries: &[u16],
-    clear: &mut [u64],
-    set: &mut [u64],
-    writers: &mut [u64],
+    clear: &mut [u64; WORDS],
+    set: &mut [u64; WORDS],
+    writers: &mut [u64; WORDS],
 )
     requires { (clear.old ≡ replicate 1024 0) × (set.old ≡ replicate 1024 0) × (writers.old ≡ replicate 1024 0) }
     ensures reached_set { ReachedSet (successors (read_of (bus_on board mem.now))) entries.now clear.new set.new }
     ensures holds_writers { HoldsWriters (read_of (bus_on board mem.now)) clear.new set.new writers.new }
 {
-    let mut stack = [0u16; STACK];
-    let mut depth = 0;
-    let mut i = 0;
-    while i < entries.len() {
-        depth = push(clear, &mut stack, depth, entries[i]);
-        i += 1;
+    let mut stack = Stack {
+        waiting: [0; STACK],
+        depth: 0,
+    };
+    for entry in entries {
+        push(clear, &mut stack, *entry);
     }
     let mut near = near::no_range();
-    while 0 < depth {
-        depth -= 1;
-        let from = stack[depth];
+    while 0 < stack.depth {
+        stack.depth -= 1;
+        let from = stack.waiting[stack.depth];
         near = near::near_to(board, near, from);
-        depth = follow(
-            board, near, mem, clear, set, writers, &mut stack, depth, from,
-        );
+        follow(board, near, mem, clear, set, writers, &mut stack, from);
     }
 }

@@ -6,8 +6,6 @@ ghost use Rattle.memory.specs.Bus.{bus_on};
 ghost use Rattle.reach.specs.Answer.{reach_report};
 ghost use Rattle.reach.specs.Reach.{Reaches};
 
-use bitset::Lowest;
-use memory::Admission;
 use memory::map::Board;
 use refusal::Refusal;
 
@@ -21,49 +19,44 @@ pub struct Node {
     pub double: bool,
 }
 
+// How many addresses are in the set; how many of them, and the lowest, hold a row that ends a path by a write to R7.
 #[derive(Clone, Copy)]
-pub enum ReachAnswer {
-    Refused(Refusal),
-    // how many addresses are in the set; how many of them, and the lowest, hold a row that ends a path by a write to R7
-    Built {
-        addresses: u32,
-        writers: u32,
-        lowest: Lowest,
-    },
+pub struct Summary {
+    pub addresses: u32,
+    pub writers: u32,
+    pub lowest: Option<u16>,
 }
 
 const MOST_ENTRIES: usize = 16;
 
 // The set, built in the lent buffers. What they held before does not count.
+#[tactic(auto, using(std::proofs::lemmas::Bool::Decides::nat_tests), unfolding(crate::specs::Reach::reach_of))]
 pub fn reach(
     board: Board,
     mem: &[u16],
     entries: &[u16],
     clear: &mut [u64],
     set: &mut [u64],
-) -> ReachAnswer
+) -> Result<Summary, Refusal>
     ensures { Reaches (bus_on board mem.now) entries.now clear.old set.old clear.new set.new (reach_report result) }
 {
-    let admission = memory::admit(board, mem);
-    if let Admission::Barred(refusal) = admission {
-        return ReachAnswer::Refused(refusal);
-    }
+    memory::admit(board, mem)?;
     if MOST_ENTRIES < entries.len() {
-        return ReachAnswer::Refused(Refusal::TooManyEntries);
+        return Err(Refusal::TooManyEntries);
     }
-    if clear.len() != bitset::WORDS {
-        return ReachAnswer::Refused(Refusal::WrongSetLength);
-    }
-    if set.len() != bitset::WORDS {
-        return ReachAnswer::Refused(Refusal::WrongSetLength);
-    }
+    let Some(clear) = clear.as_mut_array() else {
+        return Err(Refusal::WrongSetLength);
+    };
+    let Some(set) = set.as_mut_array() else {
+        return Err(Refusal::WrongSetLength);
+    };
     bitset::reset(clear);
     bitset::reset(set);
-    let mut writers = [0u64; bitset::WORDS];
+    let mut writers = [0; bitset::WORDS];
     explore::explore(board, mem, entries, clear, set, &mut writers);
-    ReachAnswer::Built {
+    Ok(Summary {
         addresses: bitset::count_either(clear, set),
         writers: bitset::count_either(&writers, &writers),
         lowest: bitset::find_lowest(&writers),
-    }
+    })
 }

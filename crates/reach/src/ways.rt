@@ -8,7 +8,7 @@ ghost use Rattle.reach.specs.Inner.Explore.{GoesTo, WaysFrom};
 
 use crate::Node;
 use decode::rows::Row;
-use decode::{Decoded, Instr, fields, rows};
+use decode::{Instr, fields, rows};
 use memory::map::{Board, Range};
 
 // It ends, by a write to R7 or otherwise; or it goes on at one node, or at one node and at a target, which is reached with D clear.
@@ -39,6 +39,7 @@ fn to_target(target: u16) -> Ways
     })
 }
 
+#[tactic(auto, unfolding(crate::specs::Ways::branch_ways))]
 fn branch_ways(next: Node, target: u16, b: u16) -> Ways
     ensures { GoesTo (branch_ways next (clear_at target) b) result }
 {
@@ -54,6 +55,7 @@ fn branch_ways(next: Node, target: u16, b: u16) -> Ways
     }
 }
 
+#[tactic(auto, unfolding(crate::specs::Ways::jump_ways))]
 fn jump_ways(next: Node, target: u16, second: u16) -> Ways
     ensures { GoesTo (jump_ways next (clear_at target) (return_of second)) result }
 {
@@ -66,14 +68,19 @@ fn jump_ways(next: Node, target: u16, second: u16) -> Ways
 }
 
 // From an instruction, once it is decoded.
-pub(crate) fn ways_of(board: Board, near: Range, mem: &[u16], node: Node, decoded: Decoded) -> Ways
+pub(crate) fn ways_of(
+    board: Board,
+    near: Range,
+    mem: &[u16],
+    node: Node,
+    decoded: Option<Instr>,
+) -> Ways
     ensures { WaysFrom (read_of (bus_on (in_front near board) mem.now)) node decoded result }
 {
-    let Decoded::Known(instr) = decoded else {
+    let Some(instr) = decoded else {
         return Ways::End;
     };
-    let writes = decode::writes_r7(instr);
-    if writes {
+    if decode::writes_r7(instr) {
         return Ways::Writes;
     }
     let row = rows::row_of(instr, node.double);
@@ -83,24 +90,17 @@ pub(crate) fn ways_of(board: Board, near: Range, mem: &[u16], node: Node, decode
     let at = node.address;
     let next = onward(node, row);
     match instr {
-        Instr::Hlt => Ways::One(next),
-        Instr::Control(_) => Ways::One(next),
         Instr::Jump => {
             let second = memory::read(board, near, mem, word::wrapping_add(at, 1));
             let third = memory::read(board, near, mem, word::wrapping_add(at, 2));
             jump_ways(next, fields::jump_target(second, third), second)
         }
-        Instr::Single(_, _) => Ways::One(next),
-        Instr::Gswd(_) => Ways::One(next),
-        Instr::Nop(_) => Ways::One(next),
-        Instr::Sin(_) => Ways::One(next),
-        Instr::Shift(_, _) => Ways::One(next),
-        Instr::Register(_, _, _) => Ways::One(next),
         Instr::Branch(b) => {
             let displacement = memory::read(board, near, mem, word::wrapping_add(at, 1));
             branch_ways(next, fields::branch_target(at, b, displacement), b)
         }
-        Instr::Store(_, _) => Ways::One(next),
-        Instr::Read(_, _, _) => Ways::One(next),
+        // The rows of one or two words apart: so the compiler takes the 1 for a constant, which saves two machine instructions a node.
+        Instr::Store(..) | Instr::Read(..) => Ways::One(next),
+        _ => Ways::One(next),
     }
 }

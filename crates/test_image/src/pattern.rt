@@ -1,33 +1,35 @@
 // The pattern: a word for each address, that no other address has. A row writes a part of it as a range of addresses, `0100-10FF`.
 use harness::{form, text};
 
+// The words from one address to another.
+#[derive(Clone, Copy)]
+pub(crate) struct Part {
+    pub first: u16,
+    pub last: u16,
+}
+
 pub(crate) fn word(address: usize) -> u16 {
     ((address % 65536 * 259 + 7) % 65536) as u16
 }
 
-pub(crate) fn first_of(range: &[u8]) -> u16 {
-    text::hex_word(range, 0)
-}
+impl Part {
+    // The part that a value writes, if it writes one.
+    pub fn of(value: &[u8]) -> Option<Part> {
+        let part = Part {
+            first: text::hex_word(value, 0),
+            last: text::hex_word(value, 5),
+        };
+        let is_part = form::is_word(text::before(value, b'-'))
+            & form::is_word(text::behind(value, b'-'))
+            & (part.first <= part.last);
+        is_part.then_some(part)
+    }
 
-pub(crate) fn last_of(range: &[u8]) -> u16 {
-    text::hex_word(range, 5)
-}
-
-pub(crate) fn is_range(value: &[u8]) -> bool {
-    form::is_word(text::before(value, b'-'))
-        & form::is_word(text::behind(value, b'-'))
-        & (first_of(value) <= last_of(value))
-}
-
-// Puts the pattern's words from `first` to `last` at their addresses. A word past the memory's end is passed over.
-pub(crate) fn put(memory: &mut [u16], first: u16, last: u16) {
-    let end = last as usize;
-    let mut i = first as usize;
-    while i < memory.len() {
-        if end < i {
-            return;
+    // Puts the words at their addresses. A word past the memory's end is passed over.
+    pub fn put(self, memory: &mut [u16]) {
+        let end = memory.len().min(self.last as usize + 1);
+        for address in self.first as usize..end {
+            memory[address] = word(address);
         }
-        memory[i] = word(i);
-        i += 1;
     }
 }

@@ -1,6 +1,8 @@
-// The rows of a case: whether they are as the head of `stdin` says, the call that they tell, and its answer.
-use crate::{pattern, pieces};
+// The rows of a case: whether they are as the head of `stdin` says, the call that they tell, and whether its answer is the one that they tell.
+use crate::pattern::Part;
+use crate::pieces;
 use harness::{answer, fields, form, words};
+use refusal::Refusal;
 
 // The board, the memory's words, the region, and the room's bytes.
 #[derive(Clone, Copy)]
@@ -12,44 +14,39 @@ pub(crate) struct Call {
     pub bytes: usize,
 }
 
-// A number of records or a length, or the number of a refusal.
-#[derive(Clone, Copy)]
-pub(crate) struct Answer {
-    pub refused: bool,
-    pub number: usize,
-}
-
-pub(crate) fn call_of(before: &[u8]) -> Call {
-    Call {
-        board: fields::word(before, b"board", 2),
-        words: fields::number(before, b"size", 65536) as usize,
-        first: fields::word(before, b"first", 0),
-        last: fields::word(before, b"last", 0),
-        bytes: fields::number(before, b"room", 0) as usize,
+impl Call {
+    pub fn of(before: &[u8]) -> Call {
+        Call {
+            board: fields::word(before, b"board", 2),
+            words: words_of(before),
+            first: fields::word(before, b"first", 0),
+            last: fields::word(before, b"last", 0),
+            bytes: fields::number(before, b"room", 0) as usize,
+        }
     }
 }
 
-// The answer of a row, in which the number of a call that is not refused has this key.
-pub(crate) fn answer_of(after: &[u8], key: &[u8]) -> Answer {
-    if answer::is_refused(after) {
-        Answer {
-            refused: true,
-            number: fields::number(after, b"number", 0) as usize,
+fn words_of(before: &[u8]) -> usize {
+    fields::number(before, b"size", 65536) as usize
+}
+
+// Whether a row tells this answer: a number of records or a length, whose field has this key, or a refusal. Where no call was made, none is told.
+pub(crate) fn tells(after: &[u8], key: &[u8], answer: Option<Result<usize, Refusal>>) -> bool {
+    match answer {
+        Some(Ok(number)) => {
+            !answer::is_refused(after) & (fields::number(after, key, 0) == number as u64)
         }
-    } else {
-        Answer {
-            refused: false,
-            number: fields::number(after, key, 0) as usize,
-        }
+        Some(Err(refusal)) => answer::refuses(after, refusal::number(refusal)),
+        None => false,
     }
 }
 
 // Whether the words that a row tells lie inside a memory of so many words.
 fn are_inside(row: &[u8], size: usize) -> bool {
-    let range = fields::value(row, b"pattern");
+    let is_inside = |part: Part| (part.last as usize) < size;
     words::are_inside(row, size)
         & (!fields::has(row, b"pattern")
-            | (pattern::is_range(range) & ((pattern::last_of(range) as usize) < size)))
+            | Part::of(fields::value(row, b"pattern")).is_some_and(is_inside))
 }
 
 fn has_file(row: &[u8]) -> bool {
@@ -57,7 +54,6 @@ fn has_file(row: &[u8]) -> bool {
 }
 
 pub(crate) fn is_load(before: &[u8], after: &[u8]) -> bool {
-    let words = fields::number(before, b"size", 65536) as usize;
     form::fit(
         before,
         b"board=word size=number fill=word 0000=list pattern=any file=any",
@@ -65,18 +61,17 @@ pub(crate) fn is_load(before: &[u8], after: &[u8]) -> bool {
         after,
         b"loaded",
         b"answer=any records=number 0000=list pattern=any",
-    ) & are_inside(before, words)
-        & are_inside(after, words)
+    ) & are_inside(before, words_of(before))
+        & are_inside(after, words_of(before))
         & has_file(before)
 }
 
 pub(crate) fn is_write(before: &[u8], after: &[u8]) -> bool {
-    let words = fields::number(before, b"size", 65536) as usize;
     form::fit(
         before,
         b"board=word size=number fill=word 0000=list pattern=any first=word last=word room=number",
     ) & answer::fit(after, b"written", b"answer=any length=number file=any")
-        & are_inside(before, words)
+        & are_inside(before, words_of(before))
         & has_file(after)
 }
 

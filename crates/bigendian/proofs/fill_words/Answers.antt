@@ -1,17 +1,13 @@
 -- The loop by the record `Filling`.
-use mathlib.Core.Path.{refl, ◌∙◌}
-use native.Mathlib.Omega.{arith}
+use Rattle.std.proofs.Common.{◌≡◌, ◌*◌, arith}
+use Rattle.bigendian.specs.Numbers.{word_at}
 use Rattle.bigendian.proofs.ReadLaws.{filling-on, filling-end}
 use Rattle.bigendian.proofs.fill_words.Goals as goal
 
-pub loop-i-init : goal.loop-i-init
-loop-i-init c = record { size = refl; within = omega arith; filled = refl }
-
 pub loop-i-preserved : goal.loop-i-preserved
-loop-i-preserved c = filling-on c.loop-i.invariant c.loop-i-test.true (c.exchanged.ensures ∙ c.little_endian_at.ensures.1)
-
-pub shape_of-words : goal.shape_of-words
-shape_of-words c = c.loop-i.invariant.size
+loop-i-preserved c =
+    let e : c.swap_bytes.result ≡ word_at c.args.bytes.now (c.loop-i.i * 2) = omega arith in
+    filling-on c.loop-i.invariant (omega arith) e
 
 pub returns : goal.returns
-returns c = filling-end c.loop-i.invariant c.loop-i-test.false
+returns c = filling-end c.loop-i.invariant (omega arith)

@@ -6,4 +6,4 @@ use Rattle.bigendian.proofs.read_words.Goals as goal
 pub returns : goal.returns
 returns c =
     let a = c.args in
-    part-stored a.words.now a.at _ _ _ a.bytes.now c.smaller-start.ensures refl c.smaller.ensures c.fill_words.ensures
+    part-stored a.words.now a.at _ _ _ a.bytes.now c.min-start.ensures refl c.min.ensures c.fill_words.ensures

@@ -1,10 +1,9 @@
 -- The words that a line stands for: a text is read as a line of a row, digit by digit at that row's places, and the row with its fields
 -- gives the words.
-use Rattle.std.specs.Prelude.{ℕ, ◌+◌, ◌-◌, ◌*◌, ◌/◌, ◌%◌, Bool, cond, List, [], ◌∷◌, eqb, leb, ltb, get_or}
+use Rattle.std.specs.Prelude.{ℕ, ◌+◌, ◌-◌, ◌*◌, ◌/◌, ◌%◌, Bool, cond, List, [], ◌∷◌, eqb, leb, ltb, get_or, Option, None, Some}
 use Prim.Native.Char.{code}
 use Rattle.memory.specs.Bus.{bus_of, read_of}
-use Rattle.decode.specs.declared.Decoded.{Decoded}
-use Rattle.decode.specs.declared.Decoded.TheVariants.{Unspecified, Known}
+use Rattle.decode.specs.declared.Instr.{Instr}
 use Rattle.decode.specs.Decode.{decode_words}
 use Rattle.decode.specs.Rows.{row_of}
 use Rattle.text.specs.Text.{digit_value}
@@ -35,9 +34,9 @@ unfoldable pub line_read : ℕ → List ℕ → Line
 line_read r text = read_in (template_of r) text (line_with r 0 0 0)
 
 -- how many words an opcode's instruction has; with a 0 after it a jump has its three
-abbrev pub count_of : Decoded → Bool → ℕ
-count_of Unspecified double = 1
-count_of (Known i) double = (row_of i double).words
+abbrev pub count_of : Option Instr → Bool → ℕ
+count_of None double = 1
+count_of (Some i) double = (row_of i double).words
 
 unfoldable pub word_count : ℕ → Bool → ℕ
 word_count w double = count_of (decode_words w 0) double

@@ -1,10 +1,8 @@
 -- The line of the instruction at an address as a row of the table with its fields, the words used, and the next D.
-use Rattle.std.specs.Prelude.{ℕ, ◌+◌, ◌*◌, ◌/◌, ◌%◌, Bool, false, cond, List, eqb, ltb}
+use Rattle.std.specs.Prelude.{ℕ, ◌+◌, ◌*◌, ◌/◌, ◌%◌, Bool, false, cond, List, eqb, ltb, Option, None, Some}
 use Rattle.word.specs.Word.{wrap_add}
 use Rattle.decode.specs.declared.Instr.{Instr}
 use Rattle.decode.specs.declared.Instr.TheVariants.{Hlt, Control, Jump, Single, Gswd, Nop, Sin, Shift, Register, Branch, Store, Read}
-use Rattle.decode.specs.declared.Decoded.{Decoded}
-use Rattle.decode.specs.declared.Decoded.TheVariants.{Unspecified, Known}
 use Rattle.decode.specs.declared.rows.Row.{Row}
 use Rattle.decode.specs.Fields.{is_backward, is_external, input_number, Return, no_return, return_in, return_of, jump_target, jump_bits}
 use Rattle.decode.specs.Decode.{decode_at}
@@ -77,9 +75,9 @@ unfoldable pub row_entry_for : Instr → Row → ℕ → ℕ → RowEntry
 row_entry_for i row a b =
     record { line = row_line_of i (line_operand row.words a b) a b; words = row.words; double = row.double }
 
-abbrev pub row_entry_of : Decoded → Bool → ℕ → ℕ → RowEntry
-row_entry_of Unspecified double a b = record { line = line_with 85 0 0 0; words = 1; double = false }
-row_entry_of (Known i) double a b = row_entry_for i (row_of i double) a b
+abbrev pub row_entry_of : Option Instr → Bool → ℕ → ℕ → RowEntry
+row_entry_of None double a b = record { line = line_with 85 0 0 0; words = 1; double = false }
+row_entry_of (Some i) double a b = row_entry_for i (row_of i double) a b
 
 -- what is listed at an address. "stack reads under D list as without it": the instruction is decoded with D clear
 unfoldable pub row_entry_at : (ℕ → ℕ) → ℕ → Bool → RowEntry

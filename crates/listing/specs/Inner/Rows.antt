@@ -1,5 +1,5 @@
 -- Document 01, "Listing lines": one row for each name and form of its operands, "the row's name and operand in these forms".
-use Rattle.std.specs.Prelude.{ℕ, List, [], ◌∷◌, get_or}
+use Rattle.std.specs.Prelude.{ℕ, ◌≡◌, List, [], ◌∷◌, get_or}
 use Prim.Native.Char.{code}
 use Prim.Native.String.{String}
 use Rattle.text.specs.Text.{codes}
@@ -62,3 +62,7 @@ template_of r = (get_or rows r (row "" 0)).template
 
 unfoldable pub base_of : ℕ → ℕ
 base_of r = (get_or rows r (row "" 0)).base
+
+-- a row of two registers, "NAME Rs,Rd": no other template has an s at that place
+abbrev pub OfRegisters : ℕ → Type 0
+OfRegisters r = get_or (template_of r) 6 0 ≡ code "s"

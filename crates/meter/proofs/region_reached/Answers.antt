@@ -1,32 +1,36 @@
 -- `region_reached` refuses in the definition's order, and else has its members scanned.
-use mathlib.Core.Path.{◌≡◌, sym, ◌∙◌}
+use mathlib.Core.Path.{refl, sym}
 use borrow.Author.Rules.{rules}
-use Rattle.memory.specs.declared.Admission.TheVariants.{Admitted}
-use Rattle.memory.specs.Bus.{bus_on}
+use Rattle.std.proofs.lemmas.Result.{err_from_is_err_and}
 use Rattle.memory.proofs.BusLaws.{unless-out}
-use Rattle.meter.specs.Meter.{scan_admission, region_reached_of}
-use Rattle.meter.proofs.RegionLaws.{region-in, reached-end, reached-wrong}
+use Rattle.meter.specs.Meter.{region_reached_of}
+use Rattle.meter.proofs.RegionLaws.{reached-end, reached-wrong}
 use Rattle.meter.proofs.region_reached.Goals as goal
-use Rattle.meter.proofs.region_reached.Goals.{In_default}
+use Rattle.meter.proofs.region_reached.Goals.{then-clear-ne-WORDS, else-clear-ne-WORDS}
 
-pub returns-in-Barred : goal.returns-in-Barred
+pub returns-in_err-region : goal.returns-in_err-region
 unfolding region_reached_of
-returns-in-Barred c = sym (unless-out _ _ (sym c.admit_scan-admission.ensures ∙ c.in-Barred.is))
+returns-in_err-region c =
+    let p = err_from_is_err_and c.from_residual.result c.from_residual.ensures.1 in
+    rw (p.1, p.2) (sym (unless-out _ _ c.in_err-region.ensures))
 
-let-in : (c : In_default) →
-    let a = c.args in
-    scan_admission (bus_on a.board a.mem.now) a.first a.last a.limit ≡ Admitted
-let-in c = sym c.admit_scan-admission.ensures ∙ c.in_default.is
-
-pub returns-then-clear-ne-WORDS : goal.returns-then-clear-ne-WORDS
-returns-then-clear-ne-WORDS c = reached-wrong _ _ _ _ _ _ (let-in (goal.at.returns-then-clear-ne-WORDS c).In_default) (search rules)
-
-pub returns-then-set-ne-WORDS : goal.returns-then-set-ne-WORDS
-returns-then-set-ne-WORDS c = reached-wrong _ _ _ _ _ _ (let-in (goal.at.returns-then-set-ne-WORDS c).In_default) (search rules)
-
-pub members-requires : goal.members-requires
-members-requires c = let k = region-in _ _ _ _ (let-in (goal.at.members-requires c).In_default) in (k.ordered, k.low, search rules)
+pub returns-then-wrong_length : goal.returns-then-wrong_length
+returns-then-wrong_length c =
+    reached-wrong _ _ _ _ _ _ c.in_ok-region.ensures.0
+    (elim c.if-clear-ne-WORDS.branch [
+      | then-clear-ne-WORDS w ↦ search rules
+      | else-clear-ne-WORDS w ↦ search rules
+    ])
 
 pub returns : goal.returns
 returns c =
-    reached-end _ _ _ _ _ _ c.found.ensures c.members.ensures (let-in (goal.at.returns c).In_default) (search rules) (search rules)
+    let k = c.in_ok-region.ensures in
+    reached-end _ _ _ _ _ _ refl (rw (k.1, k.2, k.3) at c.members.ensures) k.0
+    (elim c.if-clear-ne-WORDS.branch [
+      | then-clear-ne-WORDS w ↦ search rules
+      | else-clear-ne-WORDS w ↦ search rules
+    ])
+    (elim c.if-clear-ne-WORDS.branch [
+      | then-clear-ne-WORDS w ↦ search rules
+      | else-clear-ne-WORDS w ↦ search rules
+    ])

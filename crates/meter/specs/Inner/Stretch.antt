@@ -1,14 +1,9 @@
 -- What the scan's own contracts say: a region is scanned a stretch of its addresses at a time, as many as a word of a set tells of, or all of them.
 use Rattle.std.specs.Prelude.{ℕ, ◌%◌, ◌<◌, ◌≤◌, ◌≡◌, Bool}
 use Rattle.word.specs.Word.{bit}
-use Rattle.meter.specs.declared.scan.Findings.{Findings}
-use Rattle.meter.specs.Answer.{Answer, no_wait, no_over, Named, longest_of, lowest_of}
+use Rattle.meter.specs.Answer.{Answer, no_wait, no_over, Named}
 use Rattle.meter.specs.Scan.{longer_of, lower_of}
 use Rattle.meter.specs.Meter.{named_before}
-
--- what the code's findings stand for
-abbrev pub named_in : Findings → Named
-named_in f = record { longest_wait = longest_of f.longest; lowest_over = lowest_of f.lowest }
 
 -- what no start names
 abbrev pub nothing_named : Named

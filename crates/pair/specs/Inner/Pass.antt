@@ -1,10 +1,11 @@
 -- What the reader's two passes make of the lines. No public contract speaks of these.
-use Rattle.std.specs.Prelude.{ℕ, max, ◌+◌, ◌≡◌, true, List, [], ◌∷◌, length}
+use Rattle.std.specs.Prelude.{ℕ, max, ◌+◌, ◌≡◌, true, List, [], ◌∷◌, length, Result, Ok, Err}
+use Rattle.refusal.specs.declared.Refusal.{Refusal}
+use Rattle.refusal.specs.declared.Refusal.TheVariants.{MalformedMapping}
 use Rattle.records.specs.Records.{all_within, placed}
 use Rattle.records.specs.Region.{span_of}
 use Rattle.pair.specs.declared.line.Mapping.{Mapping}
 use Rattle.pair.specs.declared.check.Checked.{Checked}
-use Rattle.pair.specs.declared.check.Checked.TheVariants.{Listed, Malformed}
 use Rattle.pair.specs.Read.{Mappings, listed, malformed}
 use Rattle.pair.specs.Load.{mapped_records, are_there}
 
@@ -25,9 +26,10 @@ target_ends n [] = n
 target_ends n (m ∷ ms) = target_ends (max n (target_end m)) ms
 
 -- what the first pass answers after so many mappings that reach so far, if the rest is such lines
-abbrev pub gathered : ℕ → ℕ → ℕ → Mappings → Checked
-gathered count words end (listed ms) = Listed (count + length ms) (file_ends words ms) (target_ends end ms)
-gathered count words end malformed = Malformed
+abbrev pub gathered : ℕ → ℕ → ℕ → Mappings → Result Checked Refusal
+gathered count words end (listed ms) =
+    Ok (record { count = count + length ms; words = file_ends words ms; end = target_ends end ms })
+gathered count words end malformed = Err MalformedMapping
 
 -- the lines are good, the flat file has the words that they name, and what these words make lies within a memory of len words
 abbrev pub Fits : List ℕ → ℕ → Mappings → Type 0

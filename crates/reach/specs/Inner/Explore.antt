@@ -1,8 +1,8 @@
 -- The exploration: what it marks, what waits on its stack, and which addresses it notes as writers of R7.
-use Rattle.std.specs.Prelude.{ℕ, ◌+◌, ◌≤◌, ◌<◌, ◌≡◌, Bool, true, false, cond, not, List, [], ◌∷◌, ◌⊎◌}
+use Rattle.std.specs.Prelude.{ℕ, ◌+◌, ◌≤◌, ◌<◌, ◌≡◌, Bool, true, false, cond, not, List, [], ◌∷◌, ◌⊎◌, Option}
 use lib.ListN.{length, get_or, set}
 use Rattle.bitset.specs.Bits.{contains, inserted, size_of, SetBuffer}
-use Rattle.decode.specs.declared.Decoded.{Decoded}
+use Rattle.decode.specs.declared.Instr.{Instr}
 use Rattle.reach.specs.declared.Node.{Node}
 use Rattle.reach.specs.declared.ways.Ways.{Ways}
 use Rattle.reach.specs.declared.ways.Ways.TheVariants.{End, Writes, One, Two}
@@ -30,7 +30,7 @@ pub record GoesTo (l : List Node) (ways : Ways) : Type 0 where
   pub writes : is_write ways ≡ false
 
 -- what they say of an instruction, once it is decoded
-pub record WaysFrom (read : ℕ → ℕ) (n : Node) (x : Decoded) (ways : Ways) : Type 0 where
+pub record WaysFrom (read : ℕ → ℕ) (n : Node) (x : Option Instr) (ways : Ways) : Type 0 where
   pub nodes : nodes_of ways ≡ decoded_ways read n x
   pub writes : is_write ways ≡ decoded_writes x
 

@@ -1,41 +1,24 @@
--- `put`: the bytes that are left, put into the room as it stands, make what all make; each turn passes one of them.
-use Rattle.std.proofs.Common.{◌≡◌, ◌≤◌, length, sym, refl, ◌∙◌, arith, length-set, length-take-le, rules}
-use Rattle.harness.proofs.ByteLaws.{one_more, count-more, none_left, no_room, count_none, count-all, count_room}
+-- `put`: the bytes that are left, put into the room as it stands, make what all make.
+use Rattle.std.proofs.Common.{◌≡◌, ◌*◌, ◌<◌, ◌≤◌, min, length, sym, ◌∙◌, arith, length-take-le}
+use Rattle.std.proofs.lemmas.Bool.Decides.{nat_tests}
+use Rattle.harness.specs.Bytes.{pair_bytes}
+use Rattle.harness.proofs.ByteLaws.{pairs-enough, pairs-few, one_more, all_put}
 use Rattle.harness.proofs.bytes.put.Goals as goal
 
-pub loop-rest-init : goal.loop-rest-init
-loop-rest-init c = (search rules, refl, omega arith, refl)
-
-pub returns-then-room-i : goal.returns-then-room-i
-returns-then-room-i c =
-    let a = c.args in
-    let k = c.loop-rest in
-    let e : k.i ≡ length a.room.now = omega arith in
-    let inside : k.i ≤ length k.room = omega arith in (
-      sym (no_room k.rest.now k.room k.i (omega arith)) ∙ k.invariant.3,
-      count_room _ _ _ (omega arith) e,
-      (inside, sym (length-take-le k.i k.room inside)),
-    )
-
-pub loop-rest-preserved : goal.loop-rest-preserved
-loop-rest-preserved c =
-    let k = c.loop-rest in
-    let rest = k.rest.now in
-    let more = one_more rest k.room k.i (omega arith) in
-    let count = count-more rest k.room k.i (omega arith) in (
-      search rules,
-      simp length-set (omega arith),
-      rw c.from_column-next.ensures.0 (count ∙ k.invariant.2),
-      rw (c.from_column-next.ensures.0, c.hex_byte.ensures) (more ∙ k.invariant.3),
-    )
+pub loop-i-preserved : goal.loop-i-preserved
+loop-i-preserved c =
+    let k = c.loop-i in
+    let inside : 2 * k.i < length c.args.digits.now = grind (arith, nat_tests) in
+    rw c.hex_byte.ensures (one_more c.args.digits.now k.room k.i inside ∙ k.invariant)
 
 pub returns : goal.returns
 returns c =
-    let k = c.loop-rest in
-    let rest = k.rest.now in
-    let none = count_none rest k.room k.i (omega arith) in
-    let inside : k.i ≤ length k.room = omega arith in (
-      sym (none_left rest k.room k.i (omega arith)) ∙ k.invariant.3,
-      count-all _ _ _ (sym none ∙ k.invariant.2) k.invariant.0,
-      (inside, sym (length-take-le k.i k.room inside)),
+    let k = c.loop-i in
+    let digits = c.args.digits.now in
+    let all : length (pair_bytes digits) ≡ c.div_ceil.result = omega (arith, pairs-enough digits, pairs-few digits) in
+    let count : c.min-count.result ≡ min (length (pair_bytes digits)) (length c.args.room.now) = rw all c.min-count.ensures in
+    let inside : c.min-count.result ≤ length k.room = omega arith in (
+      sym (all_put digits k.room k.i (omega arith)) ∙ k.invariant,
+      count,
+      (inside, sym (length-take-le c.min-count.result k.room inside)),
     )

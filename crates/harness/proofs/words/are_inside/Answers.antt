@@ -1,23 +1,12 @@
--- `are_inside`: the words of what is left lie inside as those of the row do.
-use Rattle.std.proofs.Common.{sym, refl, ◌∙◌, arith}
-use Rattle.harness.proofs.FieldLaws.{fields-of-none, first-outside, first-inside}
+-- `are_inside`: the words of every field are.
+use Rattle.std.proofs.Common.{rules, tests}
+use Rattle.std.proofs.lemmas.Iterator.Consumers.{YieldsList-from_first}
+use Rattle.std.proofs.lemmas.Iterator.Search.{all_from_yields_List}
+use Rattle.harness.specs.Fields.{fields_of, fields_left}
+use Rattle.harness.specs.Words.{is_inside}
 use Rattle.harness.proofs.words.are_inside.Goals as goal
 
-pub loop-rest-init : goal.loop-rest-init
-loop-rest-init c = refl
-
-pub returns-then-not-is_inside : goal.returns-then-not-is_inside
-returns-then-not-is_inside c =
-    let k = c.loop-rest in
-    let size = c.args.size in
-    sym (first-outside k.rest.now (omega arith) size (sym c.is_inside.ensures ∙ c.if-not-is_inside.true)) ∙ k.invariant
-
-pub loop-rest-preserved : goal.loop-rest-preserved
-loop-rest-preserved c =
-    let k = c.loop-rest in
-    let size = c.args.size in
-    let e = sym c.is_inside.ensures ∙ c.if-not-is_inside.false in
-    rw c.after_first_field-next.ensures.0 (first-inside k.rest.now (omega arith) size e ∙ k.invariant)
-
 pub returns : goal.returns
-returns c = rw (fields-of-none c.loop-rest.rest.now (omega arith)) at c.loop-rest.invariant
+returns c =
+    all_from_yields_List (λ field. is_inside field c.args.size) c.all.new.self _ c.all.result c.all.ensures.ran
+    (YieldsList-from_first (λ x. x.now) fields_left (fields_of c.args.fields.now) c.of.ensures) (λ x b q k. search (rules, tests))

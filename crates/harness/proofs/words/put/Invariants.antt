@@ -1,11 +1,7 @@
-use Rattle.std.proofs.Common.{◌≡◌, length}
-use Rattle.harness.specs.Fields.{fields_of}
-use Rattle.harness.specs.Words.{with_all, with_words}
+use Rattle.std.proofs.Common.{◌≡◌}
+use Rattle.harness.specs.Fields.{fields_of, fields_left}
+use Rattle.harness.specs.Words.{with_all}
 use Rattle.harness.proofs.words.put.Given as goal
 
-abbrev pub invariant-loop-rest : goal.invariant-loop-rest
-invariant-loop-rest l =
-    (length l.memory ≡ length l.initial.memory) × (with_all (fields_of l.rest) l.memory ≡ with_words l.fields l.initial.memory)
-
-abbrev pub decreases-loop-rest : goal.decreases-loop-rest
-decreases-loop-rest l = length l.rest
+abbrev pub invariant-loop-field : goal.invariant-loop-field
+invariant-loop-field l = with_all (fields_left l.field-iterator) l.memory ≡ with_all (fields_of l.fields) l.initial.memory

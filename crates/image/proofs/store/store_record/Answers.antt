@@ -6,4 +6,4 @@ use Rattle.image.proofs.store.store_record.Goals as goal
 pub returns : goal.returns
 returns c =
     let a = c.args in
-    c.read_words.ensures ∙ words-stored a.bytes.now a.count c.requires.0 a.mem.now a.address c.requires.1
+    rw c.size.ensures at c.read_words.ensures ∙ words-stored a.bytes.now a.front.count c.requires.0 a.mem.now a.front.address c.requires.1

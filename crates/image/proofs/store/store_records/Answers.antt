@@ -1,35 +1,29 @@
 -- The second pass, by the record `Storing`: what is left is known to be whole.
-use mathlib.Core.Path.{ap}
-use native.Mathlib.Omega.{arith}
-use Rattle.image.specs.Inner.Pass.{part_read}
-use Rattle.image.proofs.PassLaws.{storing, storing-part, part-whole, reading-on, reading-less, storing-on}
-use Rattle.image.proofs.PassLaws.{storing-tail, storing-broken}
+use Rattle.std.proofs.Common.{arith, length-drop}
+use Rattle.word.proofs.SetsLaws.{rest}
+use Rattle.image.proofs.PassLaws.{storing-part, storing-on, storing-end}
 use Rattle.image.proofs.store.store_records.Goals as goal
 
-pub loop-address-init : goal.loop-address-init
-loop-address-init c = storing _ _ _ c.requires
-
 pub store_record-requires : goal.store_record-requires
-store_record-requires c = let s = part-whole c.loop-address.invariant.here (storing-part c.loop-address.invariant c.read_part-part.ensures) (ap part_read c.in-Record.is) in
-    (s.complete, omega (arith, s.within, c.loop-address.invariant.size))
+store_record-requires c =
+    let s = storing-part c.loop-record.invariant c.in-Some.ensures in
+    (s.complete, omega (arith, s.within, c.loop-record.invariant.size))
 
-pub overflow_add-at-in-Record : goal.overflow_add-at-in-Record
-overflow_add-at-in-Record c = omega (arith, (reading-on c.loop-address.invariant.here (storing-part c.loop-address.invariant c.read_part-part.ensures) (ap part_read c.in-Record.is)).within)
+pub slice_bounds-rest-count : goal.slice_bounds-rest-count
+slice_bounds-rest-count c = omega (arith, (storing-part c.loop-record.invariant c.in-Some.ensures).complete)
 
-pub loop-address-smaller : goal.loop-address-smaller
-loop-address-smaller c = reading-less c.loop-address.invariant.here (storing-part c.loop-address.invariant c.read_part-part.ensures) (ap part_read c.in-Record.is)
+pub slice_bounds-rest-start : goal.slice_bounds-rest-start
+slice_bounds-rest-start c = omega (arith, (storing-part c.loop-record.invariant c.in-Some.ensures).complete)
 
-pub loop-address-preserved : goal.loop-address-preserved
-loop-address-preserved c = storing-on c.loop-address.invariant c.read_part-part.ensures (ap part_read c.in-Record.is) c.store_record.ensures
+pub loop-record-smaller : goal.loop-record-smaller
+loop-record-smaller c =
+    let s = storing-part c.loop-record.invariant c.in-Some.ensures in
+    omega (arith, s.complete, length-drop c.size.result c.loop-record.rest.now)
 
-pub shape_of-mem-in-Tail : goal.shape_of-mem-in-Tail
-shape_of-mem-in-Tail c = c.loop-address.invariant.size
+pub loop-record-preserved : goal.loop-record-preserved
+loop-record-preserved c =
+    rw (rest c.loop-record.rest.now c.size.result, c.size.ensures)
+    (storing-on c.loop-record.invariant c.in-Some.ensures c.store_record.ensures)
 
-pub returns-in-Tail : goal.returns-in-Tail
-returns-in-Tail c = storing-tail c.loop-address.invariant c.read_part-part.ensures (ap part_read c.in-Tail.is)
-
-pub shape_of-mem-in-Offence : goal.shape_of-mem-in-Offence
-shape_of-mem-in-Offence c = c.loop-address.invariant.size
-
-pub returns-in-Offence : goal.returns-in-Offence
-returns-in-Offence c = storing-broken c.loop-address.invariant c.read_part-part.ensures (ap part_read c.in-Offence.is)
+pub returns : goal.returns
+returns c = storing-end c.loop-record.invariant c.in_default.ensures

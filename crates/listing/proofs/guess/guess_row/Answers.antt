@@ -1,16 +1,15 @@
 -- `guess_row`: the fourth byte is taken by a test of the length.
-use mathlib.Core.Path.{◌≡◌}
+use Rattle.std.proofs.Common.{◌≡◌, length, get_or}
 use mathlib.Core.Bool.{cond}
 use borrow.Author.Tests.{lt-ltb, le-ltb}
 use lib.Dec.{ltb}
-use lib.ListN.{length, get_or}
 use Rattle.listing.specs.Inner.Guess.{guess_of}
 use Rattle.listing.proofs.guess.guess_row.Goals as goal
 use Rattle.listing.proofs.guess.guess_row.Goals.{then-length-lt-LONGER, else-length-lt-LONGER}
 
-pub returns-then-length-lt3 : goal.returns-then-length-lt3
+pub returns-in_default : goal.returns-in_default
 unfolding guess_of
-returns-then-length-lt3 c = rw (lt-ltb _ _ c.if-length-lt3.true)
+returns-in_default c = rw (lt-ltb _ _ c.in_default.len_below)
 
 pub returns : goal.returns
 unfolding guess_of
@@ -21,4 +20,4 @@ returns c =
       | then-length-lt-LONGER w ↦ rw (lt-ltb _ _ w.if-length-lt-LONGER.true) w.fourth-is
       | else-length-lt-LONGER w ↦ rw (le-ltb _ _ w.if-length-lt-LONGER.false) w.fourth-is
     ] in
-    rw (c.row_told.ensures, le-ltb _ _ c.if-length-lt3.false, fourth)
+    rw (c.row_told.ensures, le-ltb _ _ c.in-len3-up.len_at_least, fourth)

@@ -1,12 +1,13 @@
 use Prim.Native.Nat.{◌-◌, ◌/◌}
-use Rattle.memory.specs.Bus.{bus_on}
-use Rattle.meter.specs.Meter.{answer_from}
-use Rattle.meter.specs.Inner.Stretch.{named_in}
+use Rattle.memory.specs.Bus.{bus_on, read_of}
+use Rattle.meter.specs.Answer.{named_in}
+use Rattle.meter.specs.Walk.{walk_from}
 use Rattle.meter.proofs.Loops.{Collecting}
 use Rattle.meter.proofs.scan.members.Given as goal
 
 abbrev pub invariant-loop-i : goal.invariant-loop-i
-invariant-loop-i l = Collecting l.clear (answer_from (bus_on l.board l.mem) l.limit) l.first l.last l.i (named_in l.findings)
+invariant-loop-i l =
+    Collecting l.clear (walk_from (read_of (bus_on l.board l.mem)) l.region.limit.cycles) l.region.first l.region.last l.i (named_in l.findings)
 
 abbrev pub decreases-loop-i : goal.decreases-loop-i
-decreases-loop-i l = l.last / 64 - l.i
+decreases-loop-i l = l.region.last / 64 - l.i

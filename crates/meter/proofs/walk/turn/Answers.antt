@@ -9,12 +9,12 @@ use Rattle.meter.proofs.walk.turn.Goals as goal
 use Rattle.meter.proofs.walk.turn.Goals.{After-row_of-row}
 
 -- once the row is known, the turn is the row's
-by_row : (c : After-row_of-row) → decoded_turn c.args.limit c.args.place c.args.decoded ≡ row_turn c.args.limit c.args.place c.row_of-row.result
-by_row c = turn-row c.args.limit c.args.place c.in-Known.is c.row_of-row.ensures
+by_row : (c : After-row_of-row) → decoded_turn c.args.limit.cycles c.args.place c.args.decoded ≡ row_turn c.args.limit.cycles c.args.place c.row_of-row.result
+by_row c = turn-row c.args.limit.cycles c.args.place c.in-Some.is c.row_of-row.ensures
 
 -- and its cycles are few
 few : (c : After-row_of-row) → c.row_of-row.result.cycles ≤ 12
-few c = rw c.row_of-row.ensures (row-bounds.most c.in-Known.instr c.args.place.double)
+few c = rw c.row_of-row.ensures (row-bounds.most c.in-Some.instr c.args.place.double)
 
 pub returns-in_default : goal.returns-in_default
 returns-in_default c = sym (ap (decoded_turn _ _) c.in_default.is)

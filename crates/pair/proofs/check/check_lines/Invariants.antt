@@ -1,10 +1,9 @@
-use Prim.Native.Nat.{◌-◌}
 use lib.ListN.{length}
 use Rattle.pair.proofs.PassLaws.{Checking}
 use Rattle.pair.proofs.check.check_lines.Given as goal
 
-abbrev pub invariant-loop-at : goal.invariant-loop-at
-invariant-loop-at l = Checking l.lines l.at l.count l.words l.end
+abbrev pub invariant-loop-rest : goal.invariant-loop-rest
+invariant-loop-rest l = Checking l.lines l.rest l.count l.words l.end
 
-abbrev pub decreases-loop-at : goal.decreases-loop-at
-decreases-loop-at l = length l.lines - l.at
+abbrev pub decreases-loop-rest : goal.decreases-loop-rest
+decreases-loop-rest l = length l.rest

@@ -1,9 +1,10 @@
 -- Each return is one of the tests of what stands at the front.
-use mathlib.Core.Path.{sym, ◌∙◌, ap}
-use Rattle.pair.specs.Read.{begins_with}
+use Rattle.std.proofs.Common.{◌≡◌, sym, ap, ◌∙◌}
 use Rattle.pair.specs.Format.{mapping_line}
-use Rattle.pair.proofs.FrontLaws.{front-blank, front-short, front-differs, front_above, front-line}
+use Rattle.pair.specs.Read.{mapping_at, begins_with}
+use Rattle.pair.proofs.FrontLaws.{front-blank, front-short, front-differs, front_above, front-line, starts-begins}
 use Rattle.pair.proofs.line.read_front.Goals as goal
+use Rattle.pair.proofs.line.read_front.Goals.{After-starts_with}
 
 pub returns-then-lines-eq-LINE_FEED : goal.returns-then-lines-eq-LINE_FEED
 returns-then-lines-eq-LINE_FEED c = front-blank c.args.lines.now c.requires c.if-lines-eq-LINE_FEED.true
@@ -14,15 +15,19 @@ returns-then-lines-lt-LINE_BYTES c = front-short c.args.lines.now c.requires c.i
 pub returns-then-mapping : goal.returns-then-mapping
 returns-then-mapping c = front_above c.args.lines.now c.requires c.if-lines-eq-LINE_FEED.false (rw c.mapping_at-mapping.ensures at c.if-mapping.true)
 
-pub returns-then-same : goal.returns-then-same
-returns-then-same c =
+-- the library's test is the definition's
+tested : (c : After-starts_with) → begins_with c.args.lines.now (mapping_line (mapping_at c.args.lines.now)) ≡ c.starts_with.result
+tested c =
     let l = c.args.lines.now in
-    rw c.mapping_at-mapping.ensures
-    (front-line l c.requires c.if-lines-eq-LINE_FEED.false (rw c.mapping_at-mapping.ensures at c.if-mapping.false)
-    (sym (c.begins_with-same.ensures ∙ ap (begins_with l) (c.line_of-printed.ensures ∙ ap mapping_line c.mapping_at-mapping.ensures)) ∙ c.if-same.true))
+    sym (c.starts_with.ensures.value ∙ starts-begins l c.line_of.result ∙ ap (begins_with l) (c.line_of.ensures ∙ ap mapping_line c.mapping_at-mapping.ensures))
 
-pub returns-else-same : goal.returns-else-same
-returns-else-same c =
-    let l = c.args.lines.now in
-    front-differs l c.requires c.if-lines-eq-LINE_FEED.false (rw c.mapping_at-mapping.ensures at c.if-mapping.false)
-    (sym (c.begins_with-same.ensures ∙ ap (begins_with l) (c.line_of-printed.ensures ∙ ap mapping_line c.mapping_at-mapping.ensures)) ∙ c.if-same.false)
+pub returns-then-starts_with : goal.returns-then-starts_with
+returns-then-starts_with c =
+    rw c.mapping_at-mapping.ensures
+    (front-line c.args.lines.now c.requires c.if-lines-eq-LINE_FEED.false (rw c.mapping_at-mapping.ensures at c.if-mapping.false)
+    (tested (goal.at.returns-then-starts_with c).After-starts_with ∙ c.if-starts_with.true))
+
+pub returns-else-starts_with : goal.returns-else-starts_with
+returns-else-starts_with c =
+    front-differs c.args.lines.now c.requires c.if-lines-eq-LINE_FEED.false (rw c.mapping_at-mapping.ensures at c.if-mapping.false)
+    (tested (goal.at.returns-else-starts_with c).After-starts_with ∙ c.if-starts_with.false)

@@ -1,42 +1,47 @@
 -- The second pass, by the record `Storing`: each turn is a law of StoreLaws.
-use Prim.Native.Nat.{◌/◌, ◌<◌}
-use mathlib.Core.Path.{ap}
-use native.Mathlib.Omega.{arith}
-use lib.ListN.{length, length-drop}
+use Rattle.std.proofs.Common.{◌/◌, ◌<◌, length, refl, arith}
+use Rattle.std.proofs.lemmas.Bool.Decides.{nat_tests}
 use Rattle.word.proofs.SetsLaws.{rest}
+use Rattle.bigendian.specs.Numbers.{all_words}
 use Rattle.bigendian.proofs.NumberLaws.{words-length}
-use Rattle.pair.proofs.StoreLaws.{storing, storing-end, storing-blank, storing-line, line-complete, between-length}
+use Rattle.pair.specs.Format.{line_bytes}
+use Rattle.pair.specs.Read.{mapping_at}
+use Rattle.pair.proofs.StoreLaws.{LineFits, storing-end, storing-blank, storing-line, between-length}
 use Rattle.pair.proofs.store.store_lines.Goals as goal
+use Rattle.pair.proofs.store.store_lines.Goals.{Else-rest-eq-LINE_FEED}
 
-pub loop-at-init : goal.loop-at-init
-loop-at-init c = storing _ _ _ c.requires
+pub loop-rest-preserved-then-rest-eq-LINE_FEED : goal.loop-rest-preserved-then-rest-eq-LINE_FEED
+loop-rest-preserved-then-rest-eq-LINE_FEED c =
+    rw (rest c.loop-rest.rest.now 1) (storing-blank c.loop-rest.invariant (grind (arith, nat_tests)) c.if-rest-eq-LINE_FEED.true)
 
-pub loop-at-preserved-then-lines-at-eq-LINE_FEED : goal.loop-at-preserved-then-lines-at-eq-LINE_FEED
-loop-at-preserved-then-lines-at-eq-LINE_FEED c = storing-blank c.loop-at.invariant c.loop-at-test.true c.if-lines-at-eq-LINE_FEED.true
+-- the line at the front, where it is not empty
+line : (c : Else-rest-eq-LINE_FEED)
+    → LineFits (all_words c.args.bin.now) c.args.lines.now c.args.mem.now c.loop-rest.rest.now c.loop-rest.mem (mapping_at c.loop-rest.rest.now)
+line c = let some : 0 < length c.loop-rest.rest.now = grind (arith, nat_tests) in storing-line c.loop-rest.invariant some c.if-rest-eq-LINE_FEED.false refl
 
 pub mapping_at-requires : goal.mapping_at-requires
-mapping_at-requires c =
-    let l = c.args.lines.now in
-    omega (arith, line-complete c.loop-at.invariant c.loop-at-test.true c.if-lines-at-eq-LINE_FEED.false, ap length (rest l c.loop-at.at), length-drop c.loop-at.at l)
+mapping_at-requires c = (line (goal.at.mapping_at-requires c).Else-rest-eq-LINE_FEED).complete
 
 pub store_mapping-requires : goal.store_mapping-requires
 store_mapping-requires c =
-    let f = storing-line c.loop-at.invariant c.loop-at-test.true c.if-lines-at-eq-LINE_FEED.false c.mapping_at.ensures in
+    let f = line (goal.at.store_mapping-requires c).Else-rest-eq-LINE_FEED in
     let n = words-length (length c.args.bin.now / 2) c.args.bin.now in
-    let t : c.mapping_at.result.last < length c.args.bin.now / 2 = omega (arith, f.there) in
-    (f.ordered, t, omega (arith, f.reach, between-length c.args.bin.now c.mapping_at.result.first c.mapping_at.result.last f.ordered t))
+    let mp = mapping_at c.loop-rest.rest.now in
+    let t : mp.last < length c.args.bin.now / 2 = omega (arith, f.there) in
+    rw c.mapping_at.ensures (f.ordered, t, omega (arith, f.reach, between-length c.args.bin.now mp.first mp.last f.ordered t))
 
-pub overflow_add-at-else-lines-at-eq-LINE_FEED : goal.overflow_add-at-else-lines-at-eq-LINE_FEED
-overflow_add-at-else-lines-at-eq-LINE_FEED c = omega (arith, line-complete c.loop-at.invariant c.loop-at-test.true c.if-lines-at-eq-LINE_FEED.false)
+pub slice_bounds-rest-count-else-rest-eq-LINE_FEED : goal.slice_bounds-rest-count-else-rest-eq-LINE_FEED
+slice_bounds-rest-count-else-rest-eq-LINE_FEED c =
+    (line (goal.at.slice_bounds-rest-count-else-rest-eq-LINE_FEED c).Else-rest-eq-LINE_FEED).complete
 
-pub loop-at-smaller : goal.loop-at-smaller
-loop-at-smaller c = omega (arith, line-complete c.loop-at.invariant c.loop-at-test.true c.if-lines-at-eq-LINE_FEED.false)
+pub slice_bounds-rest-start-else-rest-eq-LINE_FEED : goal.slice_bounds-rest-start-else-rest-eq-LINE_FEED
+slice_bounds-rest-start-else-rest-eq-LINE_FEED c =
+    (line (goal.at.slice_bounds-rest-start-else-rest-eq-LINE_FEED c).Else-rest-eq-LINE_FEED).complete
 
-pub loop-at-preserved : goal.loop-at-preserved
-loop-at-preserved c = (storing-line c.loop-at.invariant c.loop-at-test.true c.if-lines-at-eq-LINE_FEED.false c.mapping_at.ensures).next _ c.store_mapping.ensures
-
-pub shape_of-mem : goal.shape_of-mem
-shape_of-mem c = c.loop-at.invariant.size
+pub loop-rest-preserved : goal.loop-rest-preserved
+loop-rest-preserved c =
+    rw (rest c.loop-rest.rest.now line_bytes)
+    ((line (goal.at.loop-rest-preserved c).Else-rest-eq-LINE_FEED).next _ (rw c.mapping_at.ensures at c.store_mapping.ensures))
 
 pub returns : goal.returns
-returns c = storing-end c.loop-at.invariant c.loop-at-test.false
+returns c = storing-end c.loop-rest.invariant (grind (arith, nat_tests))

@@ -1,6 +1,6 @@
 -- `explore`: both loops keep `Explored`. The first adds an entry a turn, the second follows a path a turn.
 use Prim.Native.Nat.{ℕ}
-use mathlib.Core.Path.{◌≡◌, sym, ap, ◌∙◌}
+use mathlib.Core.Path.{◌≡◌}
 use native.Mathlib.Omega.{arith}
 use lib.ListN.{length, length-replicate}
 use Rattle.bitset.proofs.CountLaws.{size-most}
@@ -9,48 +9,38 @@ use Rattle.reach.proofs.ExploreLaws.{taken-up, top-marked}
 use Rattle.reach.proofs.FollowLaws.{explored-none, explored-entry, explored-path, explored-less, explored-all, explored-writers}
 use Rattle.reach.proofs.explore.explore.Goals as goal
 
-pub loop-i-init : goal.loop-i-init
-loop-i-init c = (omega arith, rw (c.requires.0, c.requires.1, c.requires.2) (explored-none (length-replicate {A = ℕ} 65536 0)))
+pub loop-entry-init : goal.loop-entry-init
+loop-entry-init c = rw (c.requires.0, c.requires.1, c.requires.2) (explored-none (length-replicate {A = ℕ} 65536 0))
 
-pub push-depth-requires : goal.push-depth-requires
-push-depth-requires c = let k = c.loop-i.invariant.1.work in (k.clear_buffer.long, k.room)
+pub loop-entry-preserved : goal.loop-entry-preserved
+loop-entry-preserved c = explored-entry c.loop-entry.invariant c.loop-entry-test.true c.push.ensures
 
-pub loop-i-preserved : goal.loop-i-preserved
-loop-i-preserved c = (omega arith, explored-entry c.loop-i.invariant.1 c.loop-i-test.true c.push-depth.ensures)
+pub loop-stack-init : goal.loop-stack-init
+loop-stack-init c =
+    let e : c.loop-entry.entry-index ≡ length c.args.entries.now = omega arith in
+    (rw (← e) c.loop-entry.invariant, near_first _ c.no_range-near.ensures)
 
-pub loop-depth-init : goal.loop-depth-init
-loop-depth-init c = (c.loop-i.invariant.1, near_first _ c.no_range-near.ensures)
+pub offset_bounds-stack-stack : goal.offset_bounds-stack-stack
+offset_bounds-stack-stack c = omega (arith, c.loop-stack.invariant.0.work.room, size-most c.loop-stack.clear)
 
-pub offset_bounds-stack-depth : goal.offset_bounds-stack-depth
-offset_bounds-stack-depth c = omega (arith, c.loop-depth.invariant.0.work.room, size-most c.loop-depth.clear)
+pub bounds-stack-stack : goal.bounds-stack-stack
+bounds-stack-stack c = omega (arith, c.loop-stack.invariant.0.work.room, size-most c.loop-stack.clear)
 
-pub bounds-stack-depth : goal.bounds-stack-depth
-bounds-stack-depth c = omega (arith, c.loop-depth.invariant.0.work.room, size-most c.loop-depth.clear)
-
-pub follow-depth-requires : goal.follow-depth-requires
-follow-depth-requires c =
-    let k = c.loop-depth.invariant in
-    let t = c.loop-depth-test.true in
+pub follow-requires : goal.follow-requires
+follow-requires c =
+    let k = c.loop-stack.invariant in
+    let t = c.loop-stack-test.true in
     (top-marked k.0.work t, taken-up k.0.work t, near_on _ _ _ k.1 c.near_to-near.ensures)
 
-pub loop-depth-smaller : goal.loop-depth-smaller
-loop-depth-smaller c = explored-less c.loop-depth.invariant.0 c.loop-depth-test.true c.follow-depth.ensures.1
+pub loop-stack-smaller : goal.loop-stack-smaller
+loop-stack-smaller c = explored-less c.loop-stack.invariant.0 c.loop-stack-test.true c.follow.ensures.1
 
-pub loop-depth-preserved : goal.loop-depth-preserved
-loop-depth-preserved c =
-    (explored-path c.loop-depth.invariant.0 c.follow-depth.ensures.0 c.follow-depth.ensures.1, near_on _ _ _ c.loop-depth.invariant.1 c.near_to-near.ensures)
-
-pub shape_of-clear : goal.shape_of-clear
-shape_of-clear c = c.loop-depth.invariant.0.work.clear_buffer.long ∙ sym (ap length c.requires.0 ∙ length-replicate {A = ℕ} 1024 0)
-
-pub shape_of-set : goal.shape_of-set
-shape_of-set c = c.loop-depth.invariant.0.work.set_buffer.long ∙ sym (ap length c.requires.1 ∙ length-replicate {A = ℕ} 1024 0)
-
-pub shape_of-writers : goal.shape_of-writers
-shape_of-writers c = c.loop-depth.invariant.0.work.writers_long ∙ sym (ap length c.requires.2 ∙ length-replicate {A = ℕ} 1024 0)
+pub loop-stack-preserved : goal.loop-stack-preserved
+loop-stack-preserved c =
+    (explored-path c.loop-stack.invariant.0 c.follow.ensures.0 c.follow.ensures.1, near_on _ _ _ c.loop-stack.invariant.1 c.near_to-near.ensures)
 
 pub returns : goal.returns
 returns c =
-    let k = c.loop-depth.invariant.0 in
-    let e : c.loop-depth.depth ≡ 0 = omega (arith, c.loop-depth-test.false) in
-    record { reached_set = explored-all k c.loop-i-test.false e; holds_writers = explored-writers k e }
+    let k = c.loop-stack.invariant.0 in
+    let e : c.loop-stack.stack.depth ≡ 0 = omega (arith, c.loop-stack-test.false) in
+    record { reached_set = explored-all k (omega arith) e; holds_writers = explored-writers k e }

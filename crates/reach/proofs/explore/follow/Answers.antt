@@ -1,8 +1,7 @@
 -- `follow`: a turn keeps `Following` and the range at hand. It ends where the node leads nowhere or to a node that is marked.
-use mathlib.Core.Path.{sym, ◌∙◌}
 use Rattle.memory.specs.Bus.{bus_on, read_of}
 use Rattle.reach.proofs.WayLaws.{near_on, ways_on}
-use Rattle.reach.proofs.FollowLaws.{Turn, grown-none, turn_end, turn-write, turn-back, turn_on, turn-less, fork-back, fork-on, fork-less}
+use Rattle.reach.proofs.FollowLaws.{Turn, grown-none, turn_end, turn-write, leads-one, leads-two, lead-back, lead-on, lead-less}
 use Rattle.reach.proofs.explore.follow.Goals as goal
 use Rattle.reach.proofs.explore.follow.Goals.{After-ways_of-ways}
 
@@ -16,64 +15,35 @@ turns c = ways_on _ _ _ _ c.loop-writers.invariant.1 c.fetch-fetched.ensures.nea
 pub returns-in-End : goal.returns-in-End
 returns-in-End c = let f = turn_end c.loop-writers.invariant.0 (turns (goal.at.returns-in-End c).After-ways_of-ways) c.in-End.is in (f.work, f.grown)
 
-pub shape_of-clear-in-End : goal.shape_of-clear-in-End
-shape_of-clear-in-End c = (returns-in-End c).0.clear_buffer.long ∙ sym c.requires.1.clear_buffer.long
-
-pub shape_of-set-in-End : goal.shape_of-set-in-End
-shape_of-set-in-End c = (returns-in-End c).0.set_buffer.long ∙ sym c.requires.1.set_buffer.long
-
-pub shape_of-writers-in-End : goal.shape_of-writers-in-End
-shape_of-writers-in-End c = (returns-in-End c).0.writers_long ∙ sym c.requires.1.writers_long
-
 pub returns-in-Writes : goal.returns-in-Writes
 returns-in-Writes c = let f = turn-write c.loop-writers.invariant.0 (turns (goal.at.returns-in-Writes c).After-ways_of-ways) c.in-Writes.is c.insert.ensures.1 in (f.work, f.grown)
 
-pub shape_of-clear-in-Writes : goal.shape_of-clear-in-Writes
-shape_of-clear-in-Writes c = (returns-in-Writes c).0.clear_buffer.long ∙ sym c.requires.1.clear_buffer.long
-
-pub shape_of-set-in-Writes : goal.shape_of-set-in-Writes
-shape_of-set-in-Writes c = (returns-in-Writes c).0.set_buffer.long ∙ sym c.requires.1.set_buffer.long
-
-pub shape_of-writers-in-Writes : goal.shape_of-writers-in-Writes
-shape_of-writers-in-Writes c = (returns-in-Writes c).0.writers_long ∙ sym c.requires.1.writers_long
-
 pub returns-then-not-new : goal.returns-then-not-new
-returns-then-not-new c = let f = turn-back c.loop-writers.invariant.0 (turns (goal.at.returns-then-not-new c).After-ways_of-ways) c.in-One.is c.mark-new.ensures c.if-not-new.true in (f.work, f.grown)
-
-pub shape_of-clear-then-not-new : goal.shape_of-clear-then-not-new
-shape_of-clear-then-not-new c = (returns-then-not-new c).0.clear_buffer.long ∙ sym c.requires.1.clear_buffer.long
-
-pub shape_of-set-then-not-new : goal.shape_of-set-then-not-new
-shape_of-set-then-not-new c = (returns-then-not-new c).0.set_buffer.long ∙ sym c.requires.1.set_buffer.long
-
-pub shape_of-writers-then-not-new : goal.shape_of-writers-then-not-new
-shape_of-writers-then-not-new c = (returns-then-not-new c).0.writers_long ∙ sym c.requires.1.writers_long
+returns-then-not-new c =
+    let o = leads-one c.loop-writers.invariant.0 (turns (goal.at.returns-then-not-new c).After-ways_of-ways) c.in-One.is in
+    let f = lead-back o c.mark-new.ensures c.if-not-new.true in (f.work, f.grown)
 
 pub loop-writers-smaller-in-One : goal.loop-writers-smaller-in-One
-loop-writers-smaller-in-One c = turn-less c.loop-writers.invariant.0 (turns (goal.at.loop-writers-smaller-in-One c).After-ways_of-ways) c.in-One.is c.mark-new.ensures c.if-not-new.false
+loop-writers-smaller-in-One c =
+    let o = leads-one c.loop-writers.invariant.0 (turns (goal.at.loop-writers-smaller-in-One c).After-ways_of-ways) c.in-One.is in
+    lead-less o c.mark-new.ensures c.if-not-new.false
 
 pub loop-writers-preserved-in-One : goal.loop-writers-preserved-in-One
 loop-writers-preserved-in-One c =
-    (turn_on c.loop-writers.invariant.0 (turns (goal.at.loop-writers-preserved-in-One c).After-ways_of-ways) c.in-One.is c.mark-new.ensures c.if-not-new.false, near_on _ _ _ c.loop-writers.invariant.1 c.fetch-fetched.ensures.near)
-
-pub push-depth-requires : goal.push-depth-requires
-push-depth-requires c = let k = c.loop-writers.invariant.0.work in (k.clear_buffer.long, k.room)
+    let o = leads-one c.loop-writers.invariant.0 (turns (goal.at.loop-writers-preserved-in-One c).After-ways_of-ways) c.in-One.is in
+    (lead-on o c.mark-new.ensures c.if-not-new.false, near_on _ _ _ c.loop-writers.invariant.1 c.fetch-fetched.ensures.near)
 
 pub returns-then-not-new-2 : goal.returns-then-not-new-2
-returns-then-not-new-2 c = let f = fork-back c.loop-writers.invariant.0 (turns (goal.at.returns-then-not-new-2 c).After-ways_of-ways) c.in-Two.is c.push-depth.ensures c.mark-new-in-Two.ensures c.if-not-new-2.true in (f.work, f.grown)
-
-pub shape_of-clear-then-not-new-2 : goal.shape_of-clear-then-not-new-2
-shape_of-clear-then-not-new-2 c = (returns-then-not-new-2 c).0.clear_buffer.long ∙ sym c.requires.1.clear_buffer.long
-
-pub shape_of-set-then-not-new-2 : goal.shape_of-set-then-not-new-2
-shape_of-set-then-not-new-2 c = (returns-then-not-new-2 c).0.set_buffer.long ∙ sym c.requires.1.set_buffer.long
-
-pub shape_of-writers-then-not-new-2 : goal.shape_of-writers-then-not-new-2
-shape_of-writers-then-not-new-2 c = (returns-then-not-new-2 c).0.writers_long ∙ sym c.requires.1.writers_long
+returns-then-not-new-2 c =
+    let o = leads-two c.loop-writers.invariant.0 (turns (goal.at.returns-then-not-new-2 c).After-ways_of-ways) c.in-Two.is c.push.ensures in
+    let f = lead-back o c.mark-new-in-Two.ensures c.if-not-new-2.true in (f.work, f.grown)
 
 pub loop-writers-smaller : goal.loop-writers-smaller
-loop-writers-smaller c = fork-less c.loop-writers.invariant.0 (turns (goal.at.loop-writers-smaller c).After-ways_of-ways) c.in-Two.is c.push-depth.ensures c.mark-new-in-Two.ensures c.if-not-new-2.false
+loop-writers-smaller c =
+    let o = leads-two c.loop-writers.invariant.0 (turns (goal.at.loop-writers-smaller c).After-ways_of-ways) c.in-Two.is c.push.ensures in
+    lead-less o c.mark-new-in-Two.ensures c.if-not-new-2.false
 
 pub loop-writers-preserved : goal.loop-writers-preserved
 loop-writers-preserved c =
-    (fork-on c.loop-writers.invariant.0 (turns (goal.at.loop-writers-preserved c).After-ways_of-ways) c.in-Two.is c.push-depth.ensures c.mark-new-in-Two.ensures c.if-not-new-2.false, near_on _ _ _ c.loop-writers.invariant.1 c.fetch-fetched.ensures.near)
+    let o = leads-two c.loop-writers.invariant.0 (turns (goal.at.loop-writers-preserved c).After-ways_of-ways) c.in-Two.is c.push.ensures in
+    (lead-on o c.mark-new-in-Two.ensures c.if-not-new-2.false, near_on _ _ _ c.loop-writers.invariant.1 c.fetch-fetched.ensures.near)

@@ -7,7 +7,7 @@ use Rattle.reach.proofs.explore.follow.Given as goal
 
 abbrev pub invariant-loop-writers : goal.invariant-loop-writers
 invariant-loop-writers l =
-    Following (read_of (bus_on l.board l.mem)) l.initial.clear l.initial.set l.below l.clear l.set l.writers l.stack l.depth l.node × Near l.board l.near
+    Following (read_of (bus_on l.board l.mem)) l.initial.clear l.initial.set l.initial.stack.depth l.clear l.set l.writers l.stack.waiting l.stack.depth l.node × Near l.board l.near
 
 abbrev pub decreases-loop-writers : goal.decreases-loop-writers
 decreases-loop-writers l = 131072 - (size_of l.clear + size_of l.set)

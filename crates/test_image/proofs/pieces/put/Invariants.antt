@@ -1,10 +1,10 @@
-use Prim.Native.Nat.{◌≤◌}
-use mathlib.Core.Path.{◌≡◌}
-use lib.ListN.{length}
+-- `put`: what is put stays within the room.
+use Rattle.std.proofs.Common.{◌≤◌, ◌≡◌, length}
 use Rattle.test_image.proofs.pieces.put.Given as goal
 
-abbrev pub invariant-loop-rest : goal.invariant-loop-rest
-invariant-loop-rest l = (l.size ≤ length l.room) × (length l.room ≡ length l.initial.room)
-
-abbrev pub decreases-loop-rest : goal.decreases-loop-rest
-decreases-loop-rest l = length l.rest
+abbrev pub invariant-loop-piece : goal.invariant-loop-piece
+invariant-loop-piece l =
+    (goal.iterator-loop-piece).can_next l.piece-iterator
+    × (goal.iterator-loop-piece).is_finite l.piece-iterator
+    × (l.size ≤ length l.room)
+    × (length l.room ≡ length l.initial.room)
