@@ -72,7 +72,7 @@ impl Line {
         requires { (self.now.row < 86) × (14 ≤ length text.old) }
         ensures { (result ≡ length (text_of self.now)) × (text.new ≡ text_of self.now ++ drop (length (text_of self.now)) text.old) }
     {
-        let template = rows::template_at(self.row);
+        let template = rows::row_at(self.row).template;
         if SOURCE < template.len() && template[SOURCE] == b's' {
             self.write_registers(text, template);
         } else {
