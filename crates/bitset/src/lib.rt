@@ -8,6 +8,7 @@ ghost use Rattle.bitset.specs.Bits.{contains, inserted, in_either, count_below, 
 // A set of all 65,536 addresses has so many words.
 pub const WORDS: usize = 1024;
 
+// The word of a number, or 0 past the end. (bigendian has the same line of the library's over bytes: a function for both would be longer than the two.)
 fn word_at(words: &[u64], i: usize) -> u64
     ensures { result ≡ get_or words.now i 0 }
 {

@@ -17,14 +17,16 @@ use memory::near;
 // An address waits at most once, since it is put there when it is marked.
 const STACK: usize = 65536;
 
-// The addresses that wait, the last one on top.
+// The addresses that wait, the last one on top. (The kit's `ArrayVec` is such a stack, but the proofs would then rest on that crate's statements too; now
+// they rest on the standard library's alone.)
 #[derive(Drop)]
 struct Stack {
     waiting: [u16; STACK],
     depth: usize,
 }
 
-// A node marked; whether it was not marked before.
+// A node marked; whether it was not marked before. (The buffers are lent one by one, here and below: a struct of references would have to promise in each
+// contract that it still holds the same ones.)
 fn mark(clear: &mut [u64; WORDS], set: &mut [u64; WORDS], node: Node) -> bool
     ensures { Marks clear.old set.old clear.new set.new node result }
 {
