@@ -23,7 +23,7 @@ pub fn branch_target(at: u16, b: u16, displacement: u16) -> u16
     }
 }
 
-// B, forward and backward.
+// B, forward and backward. (This and NOPP are two tests by the names of the table: one that is given the number would say neither.)
 pub fn is_always(b: u16) -> bool
     ensures { result ≡ is_always b }
 {

@@ -14,7 +14,8 @@ pub mod fields;
 pub mod rows;
 
 // An instruction: a kind for each line of document 01's table, with its fields. s is bits 5 to 3 of the opcode, d bits 2 to 0.
-// (Bits 9 to 6 as a byte make the whole six bytes long, which the compiler leaves in parts; eight it would pack into one number.)
+// (Bits 9 to 6 as a byte make the whole six bytes long, which the compiler leaves in parts; eight it would pack into one number. The fields stay the
+// opcode's bits, and are no enums: `opcode_for` and `InRange` of specs/ speak of these numbers, and each row would take an enum apart again.)
 #[derive(Clone, Copy)]
 pub enum Instr {
     // 000

@@ -6,6 +6,7 @@ use mathlib.Core.List.{List, [], ◌∷◌}
 use native.Mathlib.Omega.{arith}
 use lib.Dec.{ltb, lit<}
 use lib.ListN.{length, get_or}
+use Rattle.std.proofs.lemmas.List.{get_or_default}
 use borrow.Author.Tests.{le-ltb, ltb-false}
 use Rattle.refusal.specs.declared.Refusal.{Refusal}
 use Rattle.refusal.specs.declared.Refusal.TheVariants.{MemoryTooLong}
@@ -15,7 +16,7 @@ use Rattle.memory.specs.Memory.{peek_of}
 use Rattle.memory.specs.Map.{Cell, rom, ram16, ram8, empty, cell_at, read_as, store_as}
 use Rattle.memory.specs.Bus.{Access, plain, mapped, Bus, bus_of, bus_on, read_of, store_of, Store, keep, put, stored, map_admission, admission_of, unless_barred}
 use Rattle.memory.specs.Laws.{Words, BusWords, AgreeAt, is_ram, takes_store, BusLaws}
-use Rattle.memory.proofs.Laws.{get_d-within, poke-word, poke-laws}
+use Rattle.memory.proofs.Laws.{poke-word, poke-laws}
 
 -- a bus by how its words are reached
 by-access : (P : Bus → Type 0) → ((m : List ℕ) → P (bus_of m)) → ((b : Board) (m : List ℕ) → P (bus_on b m)) → (s : Bus) → P s
@@ -100,7 +101,7 @@ bus-laws =
 -- the word read within the lent words is the one that stands there
 pub read-within : (m : List ℕ) (a : ℕ) → a < length m → read_of (bus_of m) a ≡ get_or m a 0
 unfolding read_of peek_of
-read-within m a h = get_d-within m a 0xFFFF 0 h
+read-within m a h = get_or_default m a 0xFFFF 0 h
 
 -- a run that no address exceeds is let in, and who is let in has no longer one
 pub lets_in : (m : List ℕ) → length m ≤ 65536 → admission_of (bus_of m) ≡ Ok tt
@@ -112,7 +113,7 @@ unfolding admission_of
 let-in m e = by_length (ltb 65536 (length m)) refl e
   where
     by_length : (t : Bool) → ltb 65536 (length m) ≡ t → cond t (Err MemoryTooLong) (Ok (tt {0})) ≡ Ok (tt {0}) → length m ≤ 65536
-    by_length true h k = let z : ◌≡◌ {A = ℕ} 0 1 = cc in absurd (omega arith)
+    by_length true h k = cc
     by_length false h k = ltb-false 65536 (length m) h
 
 -- the store of a step

@@ -1,20 +1,12 @@
 -- Laws of reads and stores.
 use Prim.Native.Nat.{ℕ, zero, suc, ◌<◌, ◌≤◌}
-use mathlib.Core.Path.{◌≡◌, refl, sym}
+use mathlib.Core.Path.{◌≡◌, sym}
 use mathlib.Core.List.{List, [], ◌∷◌}
-use native.Mathlib.Nat.{le_of_suc-le-suc}
-use native.Mathlib.Omega.{arith}
 use lib.Dec.{lit<}
 use lib.ListN.{length, get_or, set, length-set}
 use lib.Seq.{get_or-set_same, get_or-set_other, set_out}
 use Rattle.memory.specs.Memory.{peek_of, poke_of}
 use Rattle.memory.specs.Laws.{Words, PokeLaws}
-
--- within a list the default is not used
-pub get_d-within : (l : List ℕ) (i d e : ℕ) → i < length l → get_or l i d ≡ get_or l i e
-get_d-within [] i d e h = absurd (omega arith)
-get_d-within (x ∷ l) zero d e h = refl
-get_d-within (x ∷ l) (suc i) d e h = get_d-within l i d e (le_of_suc-le-suc h)
 
 -- words of 16 bits, whatever a read past their end gives
 pub fits-words : (m : List ℕ) → ((a : ℕ) → get_or m a 0 < 65536) → Words m

@@ -1,7 +1,5 @@
 -- Laws of the memory and of the map.
 pub mod Laws
-pub mod Parts
-pub mod FindLaws
 pub mod BusLaws
 pub mod MapLaws
 pub mod NearLaws

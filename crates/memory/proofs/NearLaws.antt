@@ -1,10 +1,11 @@
 -- A range at hand changes no read.
 use Prim.Native.Nat.{ℕ, zero, suc}
 use mathlib.Core.Path.{◌≡◌, refl, sym}
-use mathlib.Core.Bool.{Bool, true, false, cond, ◌&&◌}
+use mathlib.Core.Bool.{Bool, true, false, cond}
 use mathlib.Core.List.{List, [], ◌∷◌}
 use native.Mathlib.Omega.{arith}
 use lib.Dec.{leb}
+use Rattle.std.proofs.lemmas.Bool.{and_parts}
 use borrow.Author.Tests.{leb-true, le-leb, lt-leb}
 use Rattle.memory.specs.declared.map.Kind.{Kind}
 use Rattle.memory.specs.declared.map.Kind.TheVariants.{Rom, Ram16, Ram8}
@@ -16,11 +17,6 @@ use Rattle.memory.specs.Map.{holds, ranges_of, deciding, Cell, rom, ram16, ram8,
 use Rattle.memory.specs.Bus.{bus_on, read_of}
 use Rattle.memory.specs.Near.{in_front, no_range, range_in, near_of, is_empty, Near}
 use Rattle.memory.specs.Laws.{NearLaws}
-
-both : (t u : Bool) → (t && u) ≡ true → (t ≡ true) × (u ≡ true)
-both true true e = (refl, refl)
-both true false e = let z : ◌≡◌ {A = ℕ} 0 1 = cc in absurd (omega arith)
-both false u e = let z : ◌≡◌ {A = ℕ} 0 1 = cc in absurd (omega arith)
 
 -- no range is of empty words
 pub kind-there : (k : Kind) → is_empty (cell_of k) ≡ false
@@ -70,7 +66,7 @@ held (s ∷ l) r a c h p = held_by s r (deciding l a) (deciding l c) (holds s a)
 none : (b : Board) → Near b no_range
 unfolding no_range holds
 none b a h =
-    let k = both (leb 1 a) (leb a 0) h in
+    let k = and_parts (leb 1 a) (leb a 0) h in
     absurd (omega (arith, leb-true 1 a k.0, leb-true a 0 k.1))
 
 found : (b : Board) (a : ℕ) (f : Option Range) → deciding (ranges_of b) a ≡ f → Near b (range_in f)

@@ -1,6 +1,7 @@
 -- Document 02, [1]: "a board map beside the memory: up to 16 ranges, each ROM, 16-bit RAM or 8-bit RAM, first match deciding, unmatched words
 -- empty."
-use Rattle.std.specs.Prelude.{ℕ, ◌%◌, Bool, false, cond, ◌&&◌, ◌||◌, List, [], ◌∷◌, leb, ltb, take, replicate, Option, None, Some}
+use Rattle.std.specs.Prelude.{ℕ, ◌%◌, Bool, cond, ◌&&◌, ◌||◌, List, leb, ltb, take, replicate, Option, None, Some}
+use Rattle.std.specs.List.{find, list_any}
 use Rattle.memory.specs.declared.map.Kind.{Kind}
 use Rattle.memory.specs.declared.map.Kind.TheVariants.{Rom, Ram16, Ram8}
 use Rattle.memory.specs.declared.map.Range.{Range}
@@ -24,8 +25,7 @@ ranges_of b = take b.count b.ranges
 
 -- "first match deciding"
 abbrev pub deciding : List Range → ℕ → Option Range
-deciding [] a = None
-deciding (r ∷ rest) a = cond (holds r a) (Some r) (deciding rest a)
+deciding rs a = find (λ r. holds r a) rs
 
 -- what a word of the memory is
 pub data Cell : Type 0 where
@@ -65,8 +65,7 @@ store_as empty m a w = m
 
 -- "one with first above last"
 abbrev pub any_reversed : List Range → Bool
-any_reversed [] = false
-any_reversed (r ∷ rest) = ltb r.last r.first || any_reversed rest
+any_reversed rs = list_any (λ r. ltb r.last r.first) rs
 
 -- refusal 14: "more than 16 ranges or one with first above last"; each listed range is tested, also one that never decides
 unfoldable pub bad_map : Board → Bool

@@ -88,40 +88,49 @@ module _ {read : ℕ → ℕ} {clear₀ set₀ clear set writers stack : List �
         grown = grown-push k.grown k.work.clear_buffer.long k.work.set_buffer.long node k.here_marked w m;
       }
 
-  -- the path goes on to a node n; what else the node leads to is marked
-  module _ {clear' set' : List ℕ} {n : Node} {new : Bool} (w : Marks clear set clear' set' n new) (quiet : writes_at read node ≡ false) (e : n ∈ successors read node)
-      (others : (x : Node) → x ∈ successors read node → (x ≡ n) ⊎ (marked clear set x ≡ true)) where
-    -- n was marked before
-    follow-back : new ≡ false → Followed read clear₀ set₀ depth₀ clear' set' writers stack depth
-    follow-back f =
-        let q : marked clear set n ≡ true = not-false _ (sym w.told ∙ f) in
-        rw (w.clear_is ∙ mark-known-clear clear set n q, w.set_is ∙ mark-known-set clear set n q)
-        (follow-ends (record { followed = λ x m. ⊎_elim (λ i. ap (marked clear set) i ∙ q) (λ i. i) (others x m); noted = λ i. unnoted quiet i }))
+-- the path goes on to a node n, and what else the node leads to is marked; no fewer are marked with D clear than before
+pub record Leading (read : ℕ → ℕ) (clear₀ set₀ : List ℕ) (depth₀ size : ℕ) (clear set writers stack : List ℕ) (depth : ℕ) (node n : Node) : Type 0 where
+  pub stands : Following read clear₀ set₀ depth₀ clear set writers stack depth node
+  pub quiet : writes_at read node ≡ false
+  pub leads : n ∈ successors read node
+  pub others : (x : Node) → x ∈ successors read node → (x ≡ n) ⊎ (marked clear set x ≡ true)
+  pub held : size ≤ size_of clear
 
-    -- n is new
-    follow-on : new ≡ true → Following read clear₀ set₀ depth₀ clear' set' writers stack depth n
-    follow-on f =
-        let l = k.work.clear_buffer.long in
-        let p = k.work.set_buffer.long in
-        let s = mark-self clear set n l p w.fits in
-        let done : Expanded read (clear_with clear n) (set_with set n) writers node =
-        record {
-          followed = λ y m. ⊎_elim (λ j. ap (marked (clear_with clear n) (set_with set n)) j ∙ s) (λ j. mark-kept clear set n y j) (others y m);
-          noted = λ i. unnoted quiet i;
-        } in
-        rw (w.clear_is, w.set_is)
-        (record {
-          here_marked = s;
-          work =
-              work-done (mark-busy k.work n w.fits)
-              (λ x b. ⊎_elim (λ i. inr (subst (Expanded read (clear_with clear n) (set_with set n) writers) (sym i) done)) (λ i. inl i) b);
-          grown = grown-mark k.grown l p node k.here_marked n w.fits e;
-        })
+module _ {read : ℕ → ℕ} {clear₀ set₀ clear set writers stack clear' set' : List ℕ} {depth₀ size depth : ℕ} {node n : Node} {new : Bool}
+    (o : Leading read clear₀ set₀ depth₀ size clear set writers stack depth node n) (w : Marks clear set clear' set' n new) where
+  -- n was marked before
+  pub lead-back : new ≡ false → Followed read clear₀ set₀ depth₀ clear' set' writers stack depth
+  lead-back f =
+      let q : marked clear set n ≡ true = not-false _ (sym w.told ∙ f) in
+      rw (w.clear_is ∙ mark-known-clear clear set n q, w.set_is ∙ mark-known-set clear set n q)
+      (follow-ends o.stands (record { followed = λ x m. ⊎_elim (λ i. ap (marked clear set) i ∙ q) (λ i. i) (o.others x m); noted = λ i. unnoted o.quiet i }))
 
-    follow-less : new ≡ true → 131072 - (size_of clear' + size_of set') < 131072 - (size_of clear + size_of set)
-    follow-less f =
-        rw (w.clear_is, w.set_is)
-        (omega (arith, mark-more clear set n k.work.clear_buffer.long k.work.set_buffer.long w.fits (not-true _ (sym w.told ∙ f)), size-most (clear_with clear n), size-most (set_with set n)))
+  -- n is new
+  pub lead-on : new ≡ true → Following read clear₀ set₀ depth₀ clear' set' writers stack depth n
+  lead-on f =
+      let k = o.stands in
+      let l = k.work.clear_buffer.long in
+      let p = k.work.set_buffer.long in
+      let s = mark-self clear set n l p w.fits in
+      let done : Expanded read (clear_with clear n) (set_with set n) writers node =
+      record {
+        followed = λ y m. ⊎_elim (λ j. ap (marked (clear_with clear n) (set_with set n)) j ∙ s) (λ j. mark-kept clear set n y j) (o.others y m);
+        noted = λ i. unnoted o.quiet i;
+      } in
+      rw (w.clear_is, w.set_is)
+      (record {
+        here_marked = s;
+        work =
+            work-done (mark-busy k.work n w.fits)
+            (λ x b. ⊎_elim (λ i. inr (subst (Expanded read (clear_with clear n) (set_with set n) writers) (sym i) done)) (λ i. inl i) b);
+        grown = grown-mark k.grown l p node k.here_marked n w.fits o.leads;
+      })
+
+  pub lead-less : new ≡ true → 131072 - (size_of clear' + size_of set') < 131072 - (size + size_of set)
+  lead-less f =
+      let k = o.stands.work in
+      rw (w.clear_is, w.set_is)
+      (omega (arith, o.held, mark-more clear set n k.clear_buffer.long k.set_buffer.long w.fits (not-true _ (sym w.told ∙ f)), size-most (clear_with clear n), size-most (set_with set n)))
 
 -- a turn of the loop by the code's ways from the node: none, a write to R7, a node, a node and a target
 pub record Turn (read : ℕ → ℕ) (node : Node) (ways : Ways) : Type 0 where
@@ -145,56 +154,33 @@ module _ {read : ℕ → ℕ} {clear₀ set₀ clear set writers stack : List �
       (follow-ends (follow-notes k (sym e.writes ∙ ap is_write q))
       (record { followed = nowhere (ap nodes_of q); noted = λ i. inserted_same writers node.address (omega (arith, h, w.writers_long)) }))
 
-  module _ {n : Node} (q : ways ≡ One n) where
-    one : successors read node ≡ n ∷ []
-    one = sym e.nodes ∙ ap nodes_of q
+  pub leads-one : {n : Node} → ways ≡ One n → Leading read clear₀ set₀ depth₀ (size_of clear) clear set writers stack depth node n
+  leads-one {n} q =
+      let one : successors read node ≡ n ∷ [] = sym e.nodes ∙ ap nodes_of q in
+      record {
+        stands = k;
+        quiet = sym e.writes ∙ ap is_write q;
+        leads = rw one (Memᴰ.head refl);
+        others = λ x m. inl (Memᴰ.eq_of_singleton (subst (λ (l : List Node). x ∈ l) one m));
+        held = omega arith;
+      }
 
-    one-quiet : writes_at read node ≡ false
-    one-quiet = sym e.writes ∙ ap is_write q
-
-    one_in : n ∈ successors read node
-    one_in = rw one (Memᴰ.head refl)
-
-    one-others : (x : Node) → x ∈ successors read node → (x ≡ n) ⊎ (marked clear set x ≡ true)
-    one-others x m = inl (Memᴰ.eq_of_singleton (subst (λ (l : List Node). x ∈ l) one m))
-
-    module _ {clear' set' : List ℕ} {new : Bool} (w : Marks clear set clear' set' n new) where
-      pub turn-back : new ≡ false → Followed read clear₀ set₀ depth₀ clear' set' writers stack depth
-      turn-back f = follow-back k w one-quiet one_in one-others f
-
-      pub turn_on : new ≡ true → Following read clear₀ set₀ depth₀ clear' set' writers stack depth n
-      turn_on f = follow-on k w one-quiet one_in one-others f
-
-      pub turn-less : new ≡ true → 131072 - (size_of clear' + size_of set') < 131072 - (size_of clear + size_of set)
-      turn-less f = follow-less k w one-quiet one_in one-others f
-
-  module _ {n : Node} {t : ℕ} (q : ways ≡ Two n t) {clear₁ stack₁ : List ℕ} {depth₁ : ℕ} (p : Pushes clear clear₁ stack stack₁ depth depth₁ t) where
-    two : successors read node ≡ n ∷ clear_at t ∷ []
-    two = sym e.nodes ∙ ap nodes_of q
-
-    two-quiet : writes_at read node ≡ false
-    two-quiet = sym e.writes ∙ ap is_write q
-
-    two_in : n ∈ successors read node
-    two_in = rw two (Memᴰ.head refl)
-
-    pushed : Following read clear₀ set₀ depth₀ clear₁ set writers stack₁ depth₁ node
-    pushed = follow-push k p (rw two (Memᴰ.tail (Memᴰ.head refl)))
-
-    two-others : (x : Node) → x ∈ successors read node → (x ≡ n) ⊎ (marked clear₁ set x ≡ true)
-    two-others x m =
-        ⊎_elim (λ i. inl i) (λ i. inr (ap (marked clear₁ set) (Memᴰ.eq_of_singleton i) ∙ push-self clear set p k.work.clear_buffer.long k.work.set_buffer.long))
-        (Memᴰ.cases_cons (subst (λ (l : List Node). x ∈ l) two m))
-
-    module _ {clear' set' : List ℕ} {new : Bool} (w : Marks clear₁ set clear' set' n new) where
-      pub fork-back : new ≡ false → Followed read clear₀ set₀ depth₀ clear' set' writers stack₁ depth₁
-      fork-back f = follow-back pushed w two-quiet two_in two-others f
-
-      pub fork-on : new ≡ true → Following read clear₀ set₀ depth₀ clear' set' writers stack₁ depth₁ n
-      fork-on f = follow-on pushed w two-quiet two_in two-others f
-
-      pub fork-less : new ≡ true → 131072 - (size_of clear' + size_of set') < 131072 - (size_of clear + size_of set)
-      fork-less f = omega (arith, follow-less pushed w two-quiet two_in two-others f, push-held clear set p k.work.clear_buffer.long k.work.set_buffer.long)
+  pub leads-two :
+      {n : Node} {t : ℕ} {clear₁ stack₁ : List ℕ} {depth₁ : ℕ} → ways ≡ Two n t → Pushes clear clear₁ stack stack₁ depth depth₁ t →
+      Leading read clear₀ set₀ depth₀ (size_of clear) clear₁ set writers stack₁ depth₁ node n
+  leads-two {n} {t} {clear₁} q p =
+      let two : successors read node ≡ n ∷ clear_at t ∷ [] = sym e.nodes ∙ ap nodes_of q in
+      let w = k.work in
+      record {
+        stands = follow-push k p (rw two (Memᴰ.tail (Memᴰ.head refl)));
+        quiet = sym e.writes ∙ ap is_write q;
+        leads = rw two (Memᴰ.head refl);
+        others =
+            λ x m.
+            ⊎_elim (λ i. inl i) (λ i. inr (ap (marked clear₁ set) (Memᴰ.eq_of_singleton i) ∙ push-self clear set p w.clear_buffer.long w.set_buffer.long))
+            (Memᴰ.cases_cons (subst (λ (l : List Node). x ∈ l) two m));
+        held = push-held clear set p w.clear_buffer.long w.set_buffer.long;
+      }
 
 -- an element by its place, and the place of an element
 at-∈ : (l : List ℕ) (i : ℕ) → i < length l → get_or l i 0 ∈ l

@@ -6,9 +6,9 @@ use mathlib.Core.List.{List}
 use mathlib.Core.Logic.{◌⊎◌, inl, inr, ⊎_elim}
 use native.Mathlib.Omega.{arith}
 use lib.ListN.{length}
-use Rattle.bitset.specs.Bits.{size_of, SetBuffer}
+use Rattle.bitset.specs.Bits.{contains, inserted, size_of, SetBuffer}
 use Rattle.bitset.proofs.SetLaws.{inserted_same, inserted-known, inserted-kept, inserted-only, inserted-buffer, member-within}
-use Rattle.bitset.proofs.CountLaws.{size-new, size-held}
+use Rattle.bitset.proofs.CountLaws.{size-most, size-new, size-held}
 use Rattle.reach.specs.declared.Node.{Node}
 use Rattle.reach.specs.Ways.{node_at}
 use Rattle.reach.specs.Inner.Explore.{marked, clear_with, set_with}
@@ -99,3 +99,7 @@ module _ (clear set : List ℕ) (n : Node) where
 
     pub mark-set-held : size_of set ≤ size_of (set_with set n)
     mark-set-held = set-held clear set n.address n.double p h
+
+-- fewer than all are in a set that lacks an address
+pub fewer : (clear : List ℕ) (a : ℕ) → length clear ≡ 1024 → a < 65536 → contains clear a ≡ false → size_of clear < 65536
+fewer clear a l h e = omega (arith, size-new clear a l h e, size-most (inserted clear a))

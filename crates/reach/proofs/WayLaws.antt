@@ -1,27 +1,21 @@
 -- Where a node leads, by the code's steps: it decodes with a range at hand.
 use Prim.Native.Nat.{ℕ}
-use mathlib.Core.Path.{◌≡◌, refl, sym, ap, ap₂, ◌∙◌}
-use mathlib.Core.Bool.{Bool, true, false, ◌||◌}
+use mathlib.Core.Path.{◌≡◌, ap, ◌∙◌}
 use mathlib.Core.List.{List}
-use Rattle.word.proofs.Choice.{cond-true, cond-false}
 use Rattle.memory.specs.declared.map.Range.{Range}
 use Rattle.memory.specs.declared.map.Board.{Board}
 use Rattle.memory.specs.Bus.{bus_on, read_of}
 use Rattle.memory.specs.Near.{in_front, no_range, near_of, Near}
 use Rattle.memory.proofs.NearLaws.{near-laws}
 use Rattle.decode.specs.declared.Instr.{Instr}
-use Rattle.std.proofs.Common.{Option, Some}
-use Rattle.decode.specs.declared.rows.Row.{Row}
+use Rattle.std.proofs.Common.{Option}
 use Rattle.decode.specs.Fields.{opcode_of}
-use Rattle.decode.specs.Decode.{instruction_of, writes_r7, specified, decode_at}
-use Rattle.decode.specs.Rows.{row_of}
+use Rattle.decode.specs.Decode.{instruction_of, specified, decode_at}
 use Rattle.decode.proofs.DecodeLaws.{decodes-in-steps}
 use Rattle.reach.specs.declared.Node.{Node}
 use Rattle.reach.specs.declared.ways.Ways.{Ways}
-use Rattle.reach.specs.declared.ways.Ways.TheVariants.{End, Writes}
-use Rattle.reach.specs.Ways.{instruction_ways, successors, decoded_writes, writes_at}
-use Rattle.reach.specs.Inner.Explore.{GoesTo, WaysFrom}
-use Rattle.reach.proofs.SummaryLaws.{or-true}
+use Rattle.reach.specs.Ways.{successors, decoded_writes, writes_at}
+use Rattle.reach.specs.Inner.Explore.{WaysFrom}
 use Rattle.reach.proofs.FollowLaws.{Turn}
 
 -- a range at hand stays one
@@ -43,25 +37,3 @@ ways_on b near m n {near'} {w} {x = x} k e f g h q =
     let t : w ≡ read n.address = f ∙ ap (λ (r : ℕ → ℕ). r n.address) (near-laws.reads b near m k) in
     let d : x ≡ decode_at read n.address n.double = h ∙ rw (s, g, t) (decodes-in-steps.steps read n.address n.double) in
     record { nodes = q.nodes ∙ rw (s, d); writes = q.writes ∙ ap decoded_writes d }
-
--- an instruction that writes R7, and one that ends the path otherwise
-pub ways-write : (read : ℕ → ℕ) (n : Node) {x : Option Instr} {i : Instr} {w : Bool} → x ≡ Some i → w ≡ writes_r7 i → w ≡ true → WaysFrom read n x Writes
-ways-write read n {x} {i} e f g =
-    let h : writes_r7 i ≡ true = sym f ∙ g in
-    rw e (record { nodes = sym (cond-true _ _ (ap (λ (b : Bool). (row_of i n.double).halts || b) h ∙ or-true (row_of i n.double).halts true refl)); writes = sym h })
-
-module _ (read : ℕ → ℕ) (n : Node) {x : Option Instr} {i : Instr} {row : Row} {w : Bool} (e : x ≡ Some i) (f : w ≡ writes_r7 i) (g : w ≡ false) (h : row ≡ row_of i n.double) where
-  quiet : writes_r7 i ≡ false
-  quiet = sym f ∙ g
-
-  pub ways-halt : row.halts ≡ true → WaysFrom read n x End
-  ways-halt q = rw e (record { nodes = sym (cond-true _ _ (ap (λ (b : Bool). b || writes_r7 i) (ap (λ (r : Row). r.halts) (sym h) ∙ q))); writes = sym quiet })
-
-  -- one that does not end it
-  pub ways-go : {ways : Ways} → row.halts ≡ false → GoesTo (instruction_ways read n row i) ways → WaysFrom read n x ways
-  ways-go q l =
-      rw e
-      (record {
-        nodes = l.nodes ∙ sym (cond-false _ _ (ap₂ (λ (b c : Bool). b || c) (ap (λ (r : Row). r.halts) (sym h) ∙ q) quiet) ∙ ap (λ (r : Row). instruction_ways read n r i) (sym h));
-        writes = l.writes ∙ sym quiet;
-      })

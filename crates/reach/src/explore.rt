@@ -17,14 +17,16 @@ use memory::near;
 // An address waits at most once, since it is put there when it is marked.
 const STACK: usize = 65536;
 
-// The addresses that wait, the last one on top.
+// The addresses that wait, the last one on top. (The kit's `ArrayVec` is such a stack, but the proofs would then rest on that crate's statements too; now
+// they rest on the standard library's alone.)
 #[derive(Drop)]
 struct Stack {
     waiting: [u16; STACK],
     depth: usize,
 }
 
-// A node marked; whether it was not marked before.
+// A node marked; whether it was not marked before. (The buffers are lent one by one, here and below: a struct of references would have to promise in each
+// contract that it still holds the same ones.)
 fn mark(clear: &mut [u64; WORDS], set: &mut [u64; WORDS], node: Node) -> bool
     ensures { Marks clear.old set.old clear.new set.new node result }
 {
@@ -35,6 +37,7 @@ fn mark(clear: &mut [u64; WORDS], set: &mut [u64; WORDS], node: Node) -> bool
 }
 
 // An address marked with D clear; where it was not marked before, it waits on the stack.
+#[tactic(auto, using(std::proofs::lemmas::Bool::Decides::nat_tests, crate::proofs::MarkLaws::fewer))]
 fn push(clear: &mut [u64; WORDS], stack: &mut Stack, address: u16)
     requires { stack.old.depth ≤ size_of clear.old }
     ensures { Pushes clear.old clear.new stack.old.waiting stack.new.waiting stack.old.depth stack.new.depth address }
@@ -71,6 +74,7 @@ fn follow(
         let instr = decode::instruction(fetched.word % 1024);
         let decoded = decode::specified_at(board, near, mem, node.address, instr, node.double);
         let ways = ways::ways_of(board, near, mem, node, decoded);
+        // Each way marks its own node: with one mark for both the compiler packs a node into one number, which takes 5 machine instructions more a node.
         match ways {
             Ways::End => return,
             Ways::Writes => {

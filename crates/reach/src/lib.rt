@@ -30,6 +30,7 @@ pub struct Summary {
 const MOST_ENTRIES: usize = 16;
 
 // The set, built in the lent buffers. What they held before does not count.
+#[tactic(auto, using(std::proofs::lemmas::Bool::Decides::nat_tests), unfolding(crate::specs::Reach::reach_of))]
 pub fn reach(
     board: Board,
     mem: &[u16],

@@ -39,6 +39,7 @@ fn to_target(target: u16) -> Ways
     })
 }
 
+#[tactic(auto, unfolding(crate::specs::Ways::branch_ways))]
 fn branch_ways(next: Node, target: u16, b: u16) -> Ways
     ensures { GoesTo (branch_ways next (clear_at target) b) result }
 {
@@ -54,6 +55,7 @@ fn branch_ways(next: Node, target: u16, b: u16) -> Ways
     }
 }
 
+#[tactic(auto, unfolding(crate::specs::Ways::jump_ways))]
 fn jump_ways(next: Node, target: u16, second: u16) -> Ways
     ensures { GoesTo (jump_ways next (clear_at target) (return_of second)) result }
 {
@@ -78,8 +80,7 @@ pub(crate) fn ways_of(
     let Some(instr) = decoded else {
         return Ways::End;
     };
-    let writes = decode::writes_r7(instr);
-    if writes {
+    if decode::writes_r7(instr) {
         return Ways::Writes;
     }
     let row = rows::row_of(instr, node.double);
@@ -98,6 +99,8 @@ pub(crate) fn ways_of(
             let displacement = memory::read(board, near, mem, word::wrapping_add(at, 1));
             branch_ways(next, fields::branch_target(at, b, displacement), b)
         }
+        // The rows of one or two words apart: so the compiler takes the 1 for a constant, which saves two machine instructions a node.
+        Instr::Store(..) | Instr::Read(..) => Ways::One(next),
         _ => Ways::One(next),
     }
 }

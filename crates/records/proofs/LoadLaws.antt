@@ -1,17 +1,16 @@
 -- The laws of what a loading answers, and of a region that is put back.
 use Prim.Native.Nat.{ℕ, ◌+◌, ◌-◌, ◌<◌, ◌≤◌}
-use mathlib.Core.Path.{◌≡◌, refl, sym, ap, ◌∙◌}
+use mathlib.Core.Path.{◌≡◌, refl, ◌∙◌}
 use mathlib.Core.Bool.{Bool, true, false, cond}
 use mathlib.Core.List.{List}
 use native.Mathlib.Omega.{arith}
-use lib.Dec.{ltb, leb}
+use lib.Dec.{ltb}
 use lib.ListN.{length, drop, length-take, length-drop}
 use lib.Seq.{get_or-take, get_or-drop}
 use borrow.Author.Tests.{ltb-false, leb-true, le-leb}
-use Rattle.refusal.specs.declared.Refusal.{Refusal}
 use Rattle.refusal.specs.declared.Refusal.TheVariants.{MemoryTooLong, FirstAboveLast, PastMemory}
 use Rattle.refusal.specs.Report.{answered}
-use Rattle.refusal.proofs.ReportLaws.{no_answer, same_answer, same-refusal}
+use Rattle.refusal.proofs.ReportLaws.{reported-apart}
 use Rattle.memory.specs.Memory.{peek_of, too_long}
 use Rattle.std.specs.Prelude.{Ok, Err}
 use Rattle.records.specs.Records.{is_within, overwrite}
@@ -21,10 +20,7 @@ use Rattle.records.specs.Laws.{LayingsAlike}
 use Rattle.records.proofs.OverLaws.{overwrite-length, read-inside, read_below, read_above}
 
 pub load-answers-apart : LoadAnswersApart
-load-answers-apart (Err a) (Err b) e = ap Err (same-refusal a b e)
-load-answers-apart (Err a) (Ok b) e = no_answer e
-load-answers-apart (Ok a) (Err b) e = no_answer (sym e)
-load-answers-apart (Ok a) (Ok b) e = ap Ok (same_answer e)
+load-answers-apart = reported-apart (λ records. records) (λ a b e. e)
 
 pub layings-alike : LayingsAlike
 layings-alike j k n a ws = go (too_long n) (is_within (length n) a (length ws))
@@ -38,18 +34,11 @@ layings-alike j k n a ws = go (too_long n) (is_within (length n) a (length ws))
     go false true = record { memory = refl; answer = tt }
     go false false = record { memory = refl; answer = refl }
 
--- a region whose last word lies within does, too
-pub within-by-last : (m : List ℕ) (first last : ℕ) → first ≤ last → is_within (length m) last 1 ≡ is_within (length m) first (span_of first last)
-within-by-last m first last h = let e : last + 1 ≡ first + span_of first last = omega arith in ap (λ (n : ℕ). leb n (length m)) e
-
 -- A region that is let in.
 pub record Region (m : List ℕ) (first last : ℕ) : Type 0 where
   pub small : length m ≤ 65536
   pub ordered : first ≤ last
   pub within : last < length m
-
-barred-not : {A : Type 0} {r : Refusal} → Err r ≡ Ok (tt {0}) → A
-barred-not e = let z : ◌≡◌ {A = ℕ} 0 1 = cc in absurd (omega arith)
 
 pub admitted-region : (m : List ℕ) (first last : ℕ) → region_admission m first last ≡ Ok (tt {0}) → Region m first last
 unfolding region_admission
@@ -57,9 +46,9 @@ admitted-region m first last = go (too_long m) (ltb last first) (is_within (leng
   where
     go : (u v w : Bool) → too_long m ≡ u → ltb last first ≡ v → is_within (length m) first (span_of first last) ≡ w
         → cond u (Err MemoryTooLong) (cond v (Err FirstAboveLast) (cond w (Ok tt) (Err PastMemory))) ≡ Ok (tt {0}) → Region m first last
-    go true v w a b c e = barred-not e
-    go false true w a b c e = barred-not e
-    go false false false a b c e = barred-not e
+    go true v w a b c e = cc
+    go false true w a b c e = cc
+    go false false false a b c e = cc
     go false false true a b c e =
         let o = ltb-false last first b in
         record {

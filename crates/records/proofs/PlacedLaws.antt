@@ -22,7 +22,7 @@ split len r rs = go (is_within len r.address (length r.words)) refl
   where
     go : (t : Bool) → is_within len r.address (length r.words) ≡ t → cond t (all_within len rs) false ≡ true → Split len r rs
     go true e h = record { here = leb-true (r.address + length r.words) len e; later = h }
-    go false e h = let z : ◌≡◌ {A = ℕ} 0 1 = cc in absurd (omega arith)
+    go false e h = cc
 
 in_turn : (m : List ℕ) (rs qs : List Record) → placed m (rs ++ qs) ≡ placed (placed m rs) qs
 in_turn m [] qs = refl

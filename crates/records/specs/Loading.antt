@@ -1,16 +1,15 @@
 -- What a loading answers and leaves, whatever the form of its file.
-use Rattle.std.specs.Prelude.{ℕ, ◌≤◌, ◌<◌, ◌≡◌, cond, ◌⊎◌, List, length, Result, Ok, Err}
+use Rattle.std.specs.Prelude.{ℕ, ◌≤◌, ◌<◌, ◌≡◌, cond, ◌⊎◌, List, length, Result}
 use Rattle.refusal.specs.declared.Refusal.{Refusal}
 use Rattle.refusal.specs.declared.Refusal.TheVariants.{MemoryTooLong, PastMemory}
-use Rattle.refusal.specs.Refusals.{refusal_number}
+use Rattle.refusal.specs.Refusals.{refusal_number, reported}
 use Rattle.refusal.specs.Report.{Report, refused, answered, OneToOne}
 use Rattle.memory.specs.Memory.{peek_of, too_long}
 use Rattle.records.specs.Records.{Record, is_within, overwrite, placed}
 
 -- "The loader answers the number of records"; of a pair "the answer is the number of mapping lines"
 abbrev pub load_reported : Result ℕ Refusal → Report ℕ
-load_reported (Err r) = refused (refusal_number r)
-load_reported (Ok records) = answered records
+load_reported answer = reported (λ records. records) answer
 
 -- no two answers are reported alike
 abbrev pub LoadAnswersApart : Type 0

@@ -16,6 +16,7 @@ pub fn is_within(size: usize, address: u16, count: u32) -> bool
 }
 
 // Whether the words from `first` to `last` of a memory can be written, or why not.
+#[tactic(auto, unfolding(crate::specs::Region::region_admission), using(std::proofs::lemmas::Bool::Decides::nat_tests))]
 pub fn admit_region(mem: &[u16], first: u16, last: u16) -> Result<(), Refusal>
     ensures { result ≡ region_admission mem.now first last }
 {

@@ -1,6 +1,6 @@
 -- Document 01, "Refusal numbers": the number of each refusal. "Each new number joins 01's table."
-use Rattle.std.specs.Prelude.{ℕ, ◌<◌}
-use Rattle.refusal.specs.Report.{OneToOne}
+use Rattle.std.specs.Prelude.{ℕ, ◌<◌, Result, Ok, Err}
+use Rattle.refusal.specs.Report.{Report, refused, answered, OneToOne}
 use Rattle.refusal.specs.declared.Refusal.{Refusal}
 use Rattle.refusal.specs.declared.Refusal.TheVariants.{
   MemoryTooLong,
@@ -60,6 +60,11 @@ refusal_number MissingFileWords = 16
 refusal_number TooManyEntries = 17
 -- document 02: a set buffer not of 1,024 words
 refusal_number WrongSetLength = 18
+
+-- what is told of a result: the number of its refusal, or what `tells` makes of its answer
+abbrev pub reported : {A B : Type 0} → (A → B) → Result A Refusal → Report B
+reported tells (Err r) = refused (refusal_number r)
+reported tells (Ok x) = answered (tells x)
 
 -- no two refusals share a number
 abbrev pub NumbersApart : Type 0

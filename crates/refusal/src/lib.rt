@@ -5,7 +5,7 @@ ghost use Rattle.std.specs.Prelude.{◌≡◌};
 ghost use Rattle.refusal.specs.Refusals.{refusal_number};
 
 // In the order of document 01's table "Refusal numbers", which document 02 goes on with.
-#[derive(Clone, Copy)]
+#[derive(Clone, Copy, PartialEq, Eq)]
 pub enum Refusal {
     MemoryTooLong = 1,
     Halted = 2,
@@ -27,7 +27,7 @@ pub enum Refusal {
     WrongSetLength = 18,
 }
 
-// Document 01's number of a refusal.
+// Document 01's number of a refusal, its discriminant. By a function and not `From`: its contract is what ties the discriminants to the table.
 pub fn number(refusal: Refusal) -> u16
     ensures { result ≡ refusal_number refusal }
 {

@@ -13,28 +13,19 @@ pub(crate) const CFG_ROOM: usize = 1024;
 // Each byte that a case does not name.
 pub(crate) const BLANK: u8 = 0xA5;
 
-const LINE_FEED: u8 = 10;
-
-const CARRIAGE_RETURN: u8 = 13;
-
 // The byte that a sign in the text of a row stands for.
 fn meant(sign: u8) -> u8 {
     match sign {
-        b'/' => LINE_FEED,
-        b'^' => CARRIAGE_RETURN,
+        b'/' => b'\n',
+        b'^' => b'\r',
         _ => sign,
     }
 }
 
 // Puts the bytes that a row's text stands for into a room, from its start on, as far as there is room.
 fn put_text(room: &mut [u8], text: &[u8]) {
-    let mut i = 0;
-    while i < text.len() {
-        if room.len() <= i {
-            return;
-        }
-        room[i] = meant(text[i]);
-        i += 1;
+    for (place, sign) in room.iter_mut().zip(text) {
+        *place = meant(*sign);
     }
 }
 
@@ -69,12 +60,10 @@ pub(crate) fn cfg_of(fields: &[u8]) -> [u8; CFG_ROOM] {
 // A memory with a word at each address that no other address near it has.
 pub(crate) fn pattern() -> [u16; MEMORY_ROOM] {
     let mut memory = [0u16; MEMORY_ROOM];
-    let mut word = 7;
-    let mut i = 0;
-    while i < MEMORY_ROOM {
-        memory[i] = word;
-        word = std::num::wrapping_add_u16(word, 259);
-        i += 1;
+    let mut word: u16 = 7;
+    for place in &mut memory {
+        *place = word;
+        word = word.wrapping_add(259);
     }
     memory
 }
@@ -83,11 +72,9 @@ pub(crate) fn pattern() -> [u16; MEMORY_ROOM] {
 pub(crate) fn memory_back(before: &[u8]) -> [u16; MEMORY_ROOM] {
     let source = pattern();
     let mut memory = memory_of(before);
-    let last = row::last_of(before) as usize;
-    let mut i = row::first_of(before) as usize;
-    while i <= last {
-        memory[i] = source[i];
-        i += 1;
+    let end = row::last_of(before) as usize + 1;
+    for address in row::first_of(before) as usize..end {
+        memory[address] = source[address];
     }
     memory
 }

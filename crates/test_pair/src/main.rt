@@ -6,56 +6,28 @@ mod build;
 mod call;
 mod row;
 
-use harness::tally::Tally;
-use harness::{fields, input, tally, text};
+use harness::cases::{self, Case};
 
 const INPUT_ROOM: usize = 65536;
 
-fn runs_well(first: &[u8], before: &[u8], after: &[u8]) -> bool {
-    if fields::is_kind(first, b"load") {
-        return call::load_is_well(before, after);
-    }
-    if fields::is_kind(first, b"write") {
-        return call::write_is_well(before, after);
-    }
-    if fields::is_kind(first, b"trip") {
-        return call::trip_is_well(before, after);
-    }
-    false
-}
-
 // The rows below the first are to begin with their names.
-fn is_well(first: &[u8], second: &[u8], third: &[u8]) -> bool {
-    fields::is_kind(second, b"before")
-        & fields::is_kind(third, b"after")
-        & runs_well(first, fields::body(second), fields::body(third))
-}
-
-// A row that is no remark is the first of a case's three rows, so that no row is passed over.
-fn run_cases(rt: &impl Print, input: &[u8]) -> Tally {
-    let mut tally = tally::empty();
-    let mut rest = input;
-    while rest.len() > 0 {
-        let first = text::first_row(rest);
-        let second = text::after_first_row(rest);
-        if text::is_remark(first) {
-            rest = second;
-        } else {
-            let third = text::after_first_row(second);
-            let well = is_well(first, text::first_row(second), text::first_row(third));
-            tally = tally::judge(rt, tally, fields::body(first), well);
-            rest = text::after_first_row(third);
-        }
+fn is_well(case: Case) -> bool {
+    let (Some(before), Some(after)) = (case.before(), case.after()) else {
+        return false;
+    };
+    match case.kind() {
+        b"load" => call::load_is_well(before, after),
+        b"write" => call::write_is_well(before, after),
+        b"trip" => call::trip_is_well(before, after),
+        _ => false,
     }
-    tally
 }
 
 fn main(rt: HostRuntime) {
-    let mut input = [0u8; INPUT_ROOM];
-    let length = input::read_full(&mut rt.stdin(), &mut input);
-    let tally = run_cases(&rt, &input[..length]);
-    if length == INPUT_ROOM {
-        let _ = rt.write_all(b"the input fills its room, and may be cut\n");
-    }
-    tally::summary(&rt, tally);
+    cases::run::<INPUT_ROOM, _>(&rt, |input| {
+        cases::run_cases(&rt, input, |case| {
+            cases::begin(&rt, case.name());
+            is_well(case)
+        })
+    })
 }

@@ -1,5 +1,7 @@
-// The rows of a case: whether they are as the head of `stdin` says, what they lend to the call, and its answer.
+// The rows of a case: whether they are as the head of `stdin` says, what they lend to the call, and whether its answer is the one that they tell.
 use harness::{answer, fields, form, words};
+use pair::Lengths;
+use refusal::Refusal;
 
 // How much is lent to a call: the words of the memory, and the bytes of the flat file and of the text, or of their rooms.
 #[derive(Clone, Copy)]
@@ -7,14 +9,6 @@ pub(crate) struct Lent {
     pub words: usize,
     pub bin: usize,
     pub cfg: usize,
-}
-
-// The number of a refusal; or the number of lines; or the length of a flat file, and that of its text.
-#[derive(Clone, Copy)]
-pub(crate) struct Answer {
-    pub refused: bool,
-    pub number: usize,
-    pub text: usize,
 }
 
 // A written text is `[mapping]` and one line, each with its line feed.
@@ -72,46 +66,32 @@ pub(crate) fn lent_to_trip(before: &[u8]) -> Lent {
     }
 }
 
-pub(crate) fn refused(number: usize) -> Answer {
-    Answer {
-        refused: true,
-        number: number,
-        text: 0,
+fn tells_refusal(after: &[u8], refusal: Refusal) -> bool {
+    answer::refuses(after, refusal::number(refusal))
+}
+
+// Whether the field with this key tells a number, in a row that tells no refusal.
+fn tells_number(after: &[u8], key: &[u8], number: usize) -> bool {
+    !answer::is_refused(after) & (fields::number(after, key, 0) == number as u64)
+}
+
+// Whether a row tells this answer of the reader, the number of lines. Where no call was made, none is told; so it is below.
+pub(crate) fn tells_lines(after: &[u8], answer: Option<Result<usize, Refusal>>) -> bool {
+    match answer {
+        Some(Ok(lines)) => tells_number(after, b"lines", lines),
+        Some(Err(refusal)) => tells_refusal(after, refusal),
+        None => false,
     }
 }
 
-pub(crate) fn loaded(lines: usize) -> Answer {
-    Answer {
-        refused: false,
-        number: lines,
-        text: 0,
-    }
-}
-
-pub(crate) fn written(bin: usize, cfg: usize) -> Answer {
-    Answer {
-        refused: false,
-        number: bin,
-        text: cfg,
-    }
-}
-
-pub(crate) fn load_answer(after: &[u8]) -> Answer {
-    if answer::is_refused(after) {
-        refused(fields::number(after, b"number", 0) as usize)
-    } else {
-        loaded(fields::number(after, b"lines", 0) as usize)
-    }
-}
-
-pub(crate) fn write_answer(after: &[u8]) -> Answer {
-    if answer::is_refused(after) {
-        refused(fields::number(after, b"number", 0) as usize)
-    } else {
-        written(
-            fields::number(after, b"binlength", 0) as usize,
-            fields::number(after, b"cfglength", 0) as usize,
-        )
+// .. of the writer, the two lengths.
+pub(crate) fn tells_lengths(after: &[u8], answer: Option<Result<Lengths, Refusal>>) -> bool {
+    match answer {
+        Some(Ok(Lengths { bin, cfg })) => {
+            tells_number(after, b"binlength", bin) & tells_number(after, b"cfglength", cfg)
+        }
+        Some(Err(refusal)) => tells_refusal(after, refusal),
+        None => false,
     }
 }
 

@@ -1,12 +1,8 @@
 -- `put`: a store past the end changes nothing.
-use lib.Seq.{set_out}
-use mathlib.Core.Path.{refl, sym}
+use Rattle.std.proofs.Common.{sym}
+use Rattle.std.proofs.Math.Seq.{set_out}
 use Rattle.memory.specs.Memory.{poke_of}
 use Rattle.memory.proofs.put.Goals as goal
-
-pub returns-then-at-mem : goal.returns-then-at-mem
-unfolding poke_of
-returns-then-at-mem c = refl
 
 pub returns-else-at-mem : goal.returns-else-at-mem
 unfolding poke_of

@@ -1,38 +1,15 @@
 -- `reach`: the refusals in their order, and then the set that `explore` leaves.
 use Prim.Native.Nat.{ℕ}
 use mathlib.Core.Path.{refl, sym, ap, ◌∙◌}
-use borrow.Author.Tests.{lt-ltb, le-ltb, eq-eqb, ne_eqb}
+use borrow.Author.Tests.{le-ltb, eq-eqb, ne_eqb}
 use mathlib.Core.List.{List}
 use lib.ListN.{length, replicate}
-use Rattle.std.proofs.lemmas.Result.{err_from_is_err_and}
 use Rattle.refusal.specs.Report.{answered}
-use Rattle.word.proofs.Choice.{cond-true, cond-false}
-use Rattle.memory.proofs.BusLaws.{unless-in, unless-out}
+use Rattle.word.proofs.Choice.{cond-false}
+use Rattle.memory.proofs.BusLaws.{unless-in}
 use Rattle.reach.specs.Reach.{reach_of}
 use Rattle.reach.proofs.SummaryLaws.{summary-is}
 use Rattle.reach.proofs.reach.Goals as goal
-
-pub returns-in_err-admit : goal.returns-in_err-admit
-unfolding reach_of
-returns-in_err-admit c =
-    let p = err_from_is_err_and c.from_residual.result c.from_residual.ensures.1 in
-    rw (p.1, p.2) (record { answer = sym (unless-out _ _ (sym c.in_err-admit.ensures)); left = record { clear_is = refl; set_is = refl } })
-
-pub returns-then-entries-gt-MOST_ENTRIES : goal.returns-then-entries-gt-MOST_ENTRIES
-unfolding reach_of
-returns-then-entries-gt-MOST_ENTRIES c =
-    record {
-      answer = sym (unless-in _ _ (sym c.in_ok-admit.ensures) ∙ cond-true _ _ (lt-ltb _ _ c.if-entries-gt-MOST_ENTRIES.true));
-      left = record { clear_is = refl; set_is = refl };
-    }
-
-pub returns-in_default : goal.returns-in_default
-unfolding reach_of
-returns-in_default c =
-    record {
-      answer = sym (unless-in _ _ (sym c.in_ok-admit.ensures) ∙ cond-false _ _ (le-ltb _ _ c.if-entries-gt-MOST_ENTRIES.false) ∙ rw (ne_eqb _ _ c.in_default.ensures.cases));
-      left = record { clear_is = refl; set_is = refl };
-    }
 
 pub returns-in_default-as_mut_array : goal.returns-in_default-as_mut_array
 unfolding reach_of

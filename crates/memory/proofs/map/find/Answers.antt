@@ -1,62 +1,19 @@
--- `map::find`: the ranges from i on decide as all of them do.
-use Prim.Native.Nat.{◌≤◌}
-use mathlib.Core.Path.{◌≡◌, refl, sym, ◌∙◌}
-use native.Mathlib.Omega.{arith}
-use borrow.Author.Rules.{rules}
-use lib.ListN.{length, take}
-use Rattle.memory.specs.Map.{ranges_of, deciding}
-use Rattle.memory.proofs.FindLaws.{listed-takes, hit, miss, past}
+-- `map::find`: of the 16 entries just the listed ones are looked at.
+use Rattle.std.proofs.Common.{rules, arith, ℕ, ◌≡◌, Bool, true, false, cond, leb, List, length, take, refl, sym, ◌∙◌}
+use Rattle.std.proofs.Math.Seq.{take_all}
+use Rattle.std.proofs.lemmas.Bool.{leb-false}
+use Rattle.memory.specs.Map.{listed_in}
 use Rattle.memory.proofs.map.find.Goals as goal
-use Rattle.memory.proofs.map.find.Goals.{After-listed-end, Start}
 
--- an array of 16 is a list of 16
-sixteen : (s : Start) → length s.args.board.ranges ≡ 16
-sixteen s = s.well_formed.0.1.1.0.1.0.1
+listed-takes : {A : Type 0} (n : ℕ) (l : List A) → length l ≡ 16 → take (listed_in n) l ≡ take n l
+unfolding listed_in
+listed-takes n l h = go (leb n 16) refl
+  where
+    go : (t : Bool) → leb n 16 ≡ t → take (cond t n 16) l ≡ take n l
+    go true e = refl
+    go false e = take_all 16 l (omega arith) ∙ sym (take_all n l (omega (arith, leb-false n 16 e)))
 
-listed-fit : (c : After-listed-end) → c.listed-end.result ≤ length c.args.board.ranges
-listed-fit c = omega (arith, sixteen c.before, c.listed-end.ensures.1)
-
--- the ranges looked at are the listed ones
-all_listed : (c : After-listed-end) → deciding (take c.listed-end.result c.args.board.ranges) c.args.address ≡ deciding (ranges_of c.args.board) c.args.address
-all_listed c =
+pub loop-range-init : goal.loop-range-init
+loop-range-init c =
     let b = c.args.board in
-    rw (c.listed-end.ensures.0, listed-takes b.count b.ranges (sixteen c.before))
-
-pub loop-i-init : goal.loop-i-init
-loop-i-init c = (search rules, refl)
-
-pub returns-then-here : goal.returns-then-here
-returns-then-here c =
-    sym (hit
-    c.args.board.ranges
-    c.listed-end.result
-    (listed-fit (goal.at.returns-then-here c).After-listed-end)
-    c.args.address
-    c.loop-i.i
-    _
-    c.loop-i-test.true
-    (sym c.holds-here.ensures ∙ c.if-here.true))
-    ∙ c.loop-i.invariant.1
-    ∙ all_listed (goal.at.returns-then-here c).After-listed-end
-
-pub loop-i-preserved : goal.loop-i-preserved
-loop-i-preserved c = (
-  search rules,
-  sym
-      (miss
-      c.args.board.ranges
-      c.listed-end.result
-      (listed-fit (goal.at.loop-i-preserved c).After-listed-end)
-      c.args.address
-      c.loop-i.i
-      _
-      c.loop-i-test.true
-      (sym c.holds-here.ensures ∙ c.if-here.false))
-      ∙ c.loop-i.invariant.1,
-)
-
-pub returns : goal.returns
-returns c =
-    sym (past c.args.board.ranges c.listed-end.result (listed-fit (goal.at.returns c).After-listed-end) c.args.address c.loop-i.i (search rules))
-    ∙ c.loop-i.invariant.1
-    ∙ all_listed (goal.at.returns c).After-listed-end
+    rw (c.listed.ensures.0, listed-takes b.count b.ranges (search rules))

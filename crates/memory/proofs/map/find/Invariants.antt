@@ -1,12 +1,7 @@
-use Prim.Native.Nat.{◌≤◌, ◌-◌}
-use mathlib.Core.Path.{◌≡◌}
-use lib.ListN.{take, drop}
-use Rattle.memory.specs.Map.{deciding}
+use Rattle.std.proofs.Common.{◌≡◌, drop}
+use Rattle.memory.specs.Map.{ranges_of, deciding}
 use Rattle.memory.proofs.map.find.Given as goal
 
-abbrev pub invariant-loop-i : goal.invariant-loop-i
-invariant-loop-i l =
-    (l.i ≤ l.end) × (deciding (drop l.i (take l.end l.board.ranges)) l.address ≡ deciding (take l.end l.board.ranges) l.address)
-
-abbrev pub decreases-loop-i : goal.decreases-loop-i
-decreases-loop-i l = l.end - l.i
+-- the ranges that are left decide as all do
+abbrev pub invariant-loop-range : goal.invariant-loop-range
+invariant-loop-range l = deciding (drop l.range-index l.range-items) l.address ≡ deciding (ranges_of l.fn.board) l.address

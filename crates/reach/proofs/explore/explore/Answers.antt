@@ -12,9 +12,6 @@ use Rattle.reach.proofs.explore.explore.Goals as goal
 pub loop-entry-init : goal.loop-entry-init
 loop-entry-init c = rw (c.requires.0, c.requires.1, c.requires.2) (explored-none (length-replicate {A = ℕ} 65536 0))
 
-pub push-requires : goal.push-requires
-push-requires c = c.loop-entry.invariant.work.room
-
 pub loop-entry-preserved : goal.loop-entry-preserved
 loop-entry-preserved c = explored-entry c.loop-entry.invariant c.loop-entry-test.true c.push.ensures
 

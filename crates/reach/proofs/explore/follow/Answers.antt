@@ -1,7 +1,7 @@
 -- `follow`: a turn keeps `Following` and the range at hand. It ends where the node leads nowhere or to a node that is marked.
 use Rattle.memory.specs.Bus.{bus_on, read_of}
 use Rattle.reach.proofs.WayLaws.{near_on, ways_on}
-use Rattle.reach.proofs.FollowLaws.{Turn, grown-none, turn_end, turn-write, turn-back, turn_on, turn-less, fork-back, fork-on, fork-less}
+use Rattle.reach.proofs.FollowLaws.{Turn, grown-none, turn_end, turn-write, leads-one, leads-two, lead-back, lead-on, lead-less}
 use Rattle.reach.proofs.explore.follow.Goals as goal
 use Rattle.reach.proofs.explore.follow.Goals.{After-ways_of-ways}
 
@@ -19,24 +19,31 @@ pub returns-in-Writes : goal.returns-in-Writes
 returns-in-Writes c = let f = turn-write c.loop-writers.invariant.0 (turns (goal.at.returns-in-Writes c).After-ways_of-ways) c.in-Writes.is c.insert.ensures.1 in (f.work, f.grown)
 
 pub returns-then-not-new : goal.returns-then-not-new
-returns-then-not-new c = let f = turn-back c.loop-writers.invariant.0 (turns (goal.at.returns-then-not-new c).After-ways_of-ways) c.in-One.is c.mark-new.ensures c.if-not-new.true in (f.work, f.grown)
+returns-then-not-new c =
+    let o = leads-one c.loop-writers.invariant.0 (turns (goal.at.returns-then-not-new c).After-ways_of-ways) c.in-One.is in
+    let f = lead-back o c.mark-new.ensures c.if-not-new.true in (f.work, f.grown)
 
 pub loop-writers-smaller-in-One : goal.loop-writers-smaller-in-One
-loop-writers-smaller-in-One c = turn-less c.loop-writers.invariant.0 (turns (goal.at.loop-writers-smaller-in-One c).After-ways_of-ways) c.in-One.is c.mark-new.ensures c.if-not-new.false
+loop-writers-smaller-in-One c =
+    let o = leads-one c.loop-writers.invariant.0 (turns (goal.at.loop-writers-smaller-in-One c).After-ways_of-ways) c.in-One.is in
+    lead-less o c.mark-new.ensures c.if-not-new.false
 
 pub loop-writers-preserved-in-One : goal.loop-writers-preserved-in-One
 loop-writers-preserved-in-One c =
-    (turn_on c.loop-writers.invariant.0 (turns (goal.at.loop-writers-preserved-in-One c).After-ways_of-ways) c.in-One.is c.mark-new.ensures c.if-not-new.false, near_on _ _ _ c.loop-writers.invariant.1 c.fetch-fetched.ensures.near)
-
-pub push-requires : goal.push-requires
-push-requires c = c.loop-writers.invariant.0.work.room
+    let o = leads-one c.loop-writers.invariant.0 (turns (goal.at.loop-writers-preserved-in-One c).After-ways_of-ways) c.in-One.is in
+    (lead-on o c.mark-new.ensures c.if-not-new.false, near_on _ _ _ c.loop-writers.invariant.1 c.fetch-fetched.ensures.near)
 
 pub returns-then-not-new-2 : goal.returns-then-not-new-2
-returns-then-not-new-2 c = let f = fork-back c.loop-writers.invariant.0 (turns (goal.at.returns-then-not-new-2 c).After-ways_of-ways) c.in-Two.is c.push.ensures c.mark-new-in-Two.ensures c.if-not-new-2.true in (f.work, f.grown)
+returns-then-not-new-2 c =
+    let o = leads-two c.loop-writers.invariant.0 (turns (goal.at.returns-then-not-new-2 c).After-ways_of-ways) c.in-Two.is c.push.ensures in
+    let f = lead-back o c.mark-new-in-Two.ensures c.if-not-new-2.true in (f.work, f.grown)
 
 pub loop-writers-smaller : goal.loop-writers-smaller
-loop-writers-smaller c = fork-less c.loop-writers.invariant.0 (turns (goal.at.loop-writers-smaller c).After-ways_of-ways) c.in-Two.is c.push.ensures c.mark-new-in-Two.ensures c.if-not-new-2.false
+loop-writers-smaller c =
+    let o = leads-two c.loop-writers.invariant.0 (turns (goal.at.loop-writers-smaller c).After-ways_of-ways) c.in-Two.is c.push.ensures in
+    lead-less o c.mark-new-in-Two.ensures c.if-not-new-2.false
 
 pub loop-writers-preserved : goal.loop-writers-preserved
 loop-writers-preserved c =
-    (fork-on c.loop-writers.invariant.0 (turns (goal.at.loop-writers-preserved c).After-ways_of-ways) c.in-Two.is c.push.ensures c.mark-new-in-Two.ensures c.if-not-new-2.false, near_on _ _ _ c.loop-writers.invariant.1 c.fetch-fetched.ensures.near)
+    let o = leads-two c.loop-writers.invariant.0 (turns (goal.at.loop-writers-preserved c).After-ways_of-ways) c.in-Two.is c.push.ensures in
+    (lead-on o c.mark-new-in-Two.ensures c.if-not-new-2.false, near_on _ _ _ c.loop-writers.invariant.1 c.fetch-fetched.ensures.near)
