@@ -49,16 +49,16 @@ pub fn put_word(room: &mut [u8], at: usize, word: u16)
 }
 
 // Numbers put from a place on, one behind the other, as many as the room has. Answers the sum of those that were put, so that a writer
-// reads each of them once.
+// reads each of them once: by value, since behind the store it would have to be loaded again.
 pub fn put_words(room: &mut [u8], at: usize, words: &[u16]) -> u16
     ensures { (room.new ≡ put_words room.old at words.now)
         × (result ≡ total (take (fitting (length room.old) at) words.now) % 65536) }
 {
     let count = fitting_words(room.len(), at).min(words.len());
     let mut sum: u16 = 0;
-    for (i, number) in words[..count].iter().enumerate() {
-        put_pair(room, at + i * 2, *number);
-        sum = word::wrapping_add(sum, *number);
+    for (i, &number) in words[..count].iter().enumerate() {
+        put_pair(room, at + i * 2, number);
+        sum = word::wrapping_add(sum, number);
     }
     sum
 }

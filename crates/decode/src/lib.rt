@@ -3,12 +3,11 @@
 #![tactic(auto)]
 
 ghost use Rattle.std.specs.Prelude.{◌≡◌};
-ghost use Rattle.memory.specs.Bus.{bus_on, read_of};
-ghost use Rattle.memory.specs.Near.{in_front};
+ghost use Rattle.memory.specs.Near.{reads};
 ghost use Rattle.decode.specs.Decode.{control_instruction, status_instruction, low_instruction, instruction_of, writes_r7, unspecified_form, specified, decode_words};
 ghost use Rattle.decode.specs.Laws.{Decodes};
 
-use memory::map::{Board, Range};
+use memory::near::View;
 
 pub mod fields;
 pub mod rows;
@@ -124,18 +123,11 @@ pub fn writes_r7(instr: Instr) -> bool
 }
 
 // The two unspecified forms: a jump whose second word ends in bits 3, and a stack read under D.
-fn is_unspecified_at(
-    board: Board,
-    near: Range,
-    mem: &[u16],
-    at: u16,
-    instr: Instr,
-    double: bool,
-) -> bool
-    ensures { result ≡ unspecified_form (read_of (bus_on (in_front near board) mem.now)) at instr double }
+fn is_unspecified_at(view: &View, at: u16, instr: Instr, double: bool) -> bool
+    ensures { result ≡ unspecified_form (reads view.now) at instr double }
 {
     match instr {
-        Instr::Jump => memory::read(board, near, mem, word::wrapping_add(at, 1)) % 4 == 3,
+        Instr::Jump => view.read(word::wrapping_add(at, 1)) % 4 == 3,
         Instr::Read(_, s, _) => double & (s == 6),
         _ => false,
     }
@@ -144,27 +136,20 @@ fn is_unspecified_at(
 // An instruction at an address, unless its form is unspecified there. Only of a jump the second word is read. (The step and the walk read the
 // opcode themselves and call this: one function for both would be too long to be made one with their loops.)
 #[tactic(auto, unfolding(crate::specs::Decode::specified))]
-pub fn specified_at(
-    board: Board,
-    near: Range,
-    mem: &[u16],
-    at: u16,
-    instr: Instr,
-    double: bool,
-) -> Option<Instr>
-    ensures { result ≡ specified (read_of (bus_on (in_front near board) mem.now)) at instr double }
+pub fn specified_at(view: &View, at: u16, instr: Instr, double: bool) -> Option<Instr>
+    ensures { result ≡ specified (reads view.now) at instr double }
 {
-    let unspecified = is_unspecified_at(board, near, mem, at, instr, double);
+    let unspecified = is_unspecified_at(view, at, instr, double);
     if unspecified { None } else { Some(instr) }
 }
 
 // The instruction at an address.
 #[tactic(auto, using(crate::proofs::DecodeLaws::decodes))]
-pub fn decode_at(board: Board, near: Range, mem: &[u16], at: u16, double: bool) -> Option<Instr>
-    ensures { Decodes (read_of (bus_on (in_front near board) mem.now)) at double result }
+pub fn decode_at(view: &View, at: u16, double: bool) -> Option<Instr>
+    ensures { Decodes (reads view.now) at double result }
 {
-    let instr = instruction(memory::read(board, near, mem, at) % 1024);
-    specified_at(board, near, mem, at, instr, double)
+    let instr = instruction(view.read(at) % 1024);
+    specified_at(view, at, instr, double)
 }
 
 // The instruction of two words with D clear: then only a jump can be unspecified.

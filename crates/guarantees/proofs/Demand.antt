@@ -1,4 +1,5 @@
 -- Demand 3 holds.
+use Rattle.std.proofs.Common.{Ok, tt}
 use Prim.Native.Nat.{ℕ, ◌+◌, ◌-◌}
 use mathlib.Core.Path.{◌≡◌, refl, sym, subst}
 use mathlib.Core.Bool.{Bool, true, false, cond}
@@ -6,7 +7,6 @@ use mathlib.Core.List.{List, []}
 use native.Mathlib.Omega.{arith}
 use lib.ListN.{get_or}
 use Rattle.refusal.specs.Report.{answered, UnlessRefused}
-use Rattle.memory.specs.declared.Admission.TheVariants.{Admitted}
 use Rattle.memory.specs.Bus.{Bus, read_of, admission_of}
 use Rattle.memory.proofs.BusLaws.{agree_same}
 use Rattle.cpu.specs.declared.Lines.{Lines}
@@ -37,7 +37,7 @@ module _ (m : Machine) (b : Bus) (ls : List Lines) (limit : ℕ) (premises : Pre
   walks {x} e = sym (subst (UnlessRefused (λ y. y ≡ walk_from (read_of b) (limit_of limit) (register 7 m))) e (answers-the-walk b (register 7 m) limit))
 
   -- the machine stands at the walk's start
-  start : admission_of b ≡ Admitted → Follows (reads_on (read_of b) (limit_of limit) (start_at (register 7 m))) b m b ls (start_at (register 7 m))
+  start : admission_of b ≡ Ok (tt {0}) → Follows (reads_on (read_of b) (limit_of limit) (start_at (register 7 m))) b m b ls (start_at (register 7 m))
   unfolding start_at reads_from
   start h =
       let s = premises.stands in

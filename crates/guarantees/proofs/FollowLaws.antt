@@ -1,4 +1,5 @@
 -- The machine follows the walk: by induction on the steps, with a turn of the walk for each.
+use Rattle.std.proofs.Common.{Some}
 use Prim.Native.Nat.{ℕ, suc, ◌+◌, ◌<◌, ◌≤◌}
 use mathlib.Core.Path.{◌≡◌, refl, ap, sym, subst, ◌∙◌}
 use mathlib.Core.Bool.{true, false, cond}
@@ -11,7 +12,6 @@ use Rattle.memory.specs.Bus.{Bus, read_of}
 use Rattle.memory.specs.Laws.{AgreeAt}
 use Rattle.memory.proofs.BusLaws.{agree-through}
 use Rattle.decode.specs.declared.Instr.{Instr}
-use Rattle.decode.specs.declared.Decoded.TheVariants.{Known}
 use Rattle.decode.specs.Decode.{decode_at}
 use Rattle.decode.specs.Rows.{row_of}
 use Rattle.decode.specs.Reads.{decoding_reads}
@@ -46,8 +46,8 @@ pub record Follows (reads : List (List ℕ)) (given : Bus) (m : Machine) (b : Bu
 -- the machine meets the instruction that the walk meets
 follows-known : {r : List (List ℕ)} {given : Bus} {m : Machine} {b : Bus} {ls : List Lines} {p : Place} {i : Instr} →
     Follows (decoding_reads (read_of given) p.address ∷ r) given m b ls p →
-    decode_at (read_of given) p.address p.double ≡ Known i →
-    decode_at (read_of b) p.address p.double ≡ Known i
+    decode_at (read_of given) p.address p.double ≡ Some i →
+    decode_at (read_of b) p.address p.double ≡ Some i
 follows-known {given = given} {b = b} {p = p} f e = sym (decoding-is-local given b p.address p.double (f.same 0)) ∙ e
 
 -- one instruction further
@@ -139,7 +139,7 @@ module _ (x : StepMade) (n c sum : ℕ) (low : 4 ≤ c) (e : x.left.answer ≡ d
 
 -- a machine that stands at the interruptible instruction
 waited-last : (m : Machine) (b : Bus) (l : Lines) (ls : List Lines) {p : Place} {i : Instr} → Here m b p →
-    decode_at (read_of b) p.address p.double ≡ Known i →
+    decode_at (read_of b) p.address p.double ≡ Some i →
     (row_of i p.double).halts ≡ false →
     (row_of i p.double).interruptible ≡ true →
     RequestsLow (l ∷ ls) →

@@ -1,4 +1,5 @@
 -- R7 after an instruction that does not write its result there: in line, or where its branch or jump goes. So a step goes on at a successor.
+use Rattle.std.proofs.Common.{Some}
 use Prim.Native.Nat.{ℕ, ◌-◌, ◌%◌, ◌/◌}
 use mathlib.Core.Path.{◌≡◌, refl, sym, ap, ap₂, ◌∙◌, subst}
 use mathlib.Core.Bool.{Bool, true, false, cond, not, ◌&&◌, ◌||◌, true≢false}
@@ -13,7 +14,6 @@ use Rattle.memory.specs.Memory.{peek_of}
 use Rattle.memory.specs.Bus.{Bus, read_of, admission_of}
 use Rattle.decode.specs.declared.Instr.{Instr}
 use Rattle.decode.specs.declared.Instr.TheVariants.{Hlt, Control, Jump, Single, Gswd, Nop, Sin, Shift, Register, Branch, Store as StoreRow, Read}
-use Rattle.decode.specs.declared.Decoded.TheVariants.{Known}
 use Rattle.decode.specs.declared.rows.Row.{Row}
 use Rattle.decode.specs.Fields.{Mode, stack, modes, mode_of, branch_target, is_always, is_nopp, Return, no_return, return_in, return_of, jump_target}
 use Rattle.decode.specs.Decode.{instruction_of, writes_r7, is_unspecified, decode_at}
@@ -181,8 +181,8 @@ leads : (m : Machine) (b : Bus) (l : Lines) (i : Instr) → StepsOn m b l i → 
 unfolding successors noted after
 leads m b l i k =
     let e : (step_of m b l).machine ≡ (executed (noted m l) b l i).machine = ap (λ (o : Outcome). o.machine) (step-executes m b l i k.executes) in
-    let known : decode_at (read_of b) (register 7 m) m.switches.d ≡ Known i = k.executes.instruction in
-    let ways : decoded_ways (read_of b) (node_of m) (Known i) ≡ instruction_ways (read_of b) (node_of m) (row_of i m.switches.d) i =
+    let known : decode_at (read_of b) (register 7 m) m.switches.d ≡ Some i = k.executes.instruction in
+    let ways : decoded_ways (read_of b) (node_of m) (Some i) ≡ instruction_ways (read_of b) (node_of m) (row_of i m.switches.d) i =
     cond-false _ _ (ap₂ (λ (x y : Bool). x || y) k.running k.in_path) in
     rw (e, known, ways)
     (goes (noted m l) b l i (decodes-in-range (read_of b) (register 7 m) m.switches.d i known) k.running k.in_path)

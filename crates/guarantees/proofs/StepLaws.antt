@@ -1,16 +1,14 @@
 -- One step of a machine that stands where the walk stands.
+use Rattle.std.proofs.Common.{Option, Some, Ok, tt}
 use Prim.Native.Nat.{ℕ, ◌+◌}
 use mathlib.Core.Path.{◌≡◌, refl, ap, ap₂, sym, ◌∙◌}
 use mathlib.Core.Bool.{Bool, true, false, not, cond, ◌&&◌, true≢false}
 use native.Mathlib.Omega.{arith}
 use Rattle.word.specs.Word.{wrap_add}
 use Rattle.word.proofs.Choice.{cond-false}
-use Rattle.memory.specs.declared.Admission.TheVariants.{Admitted}
 use Rattle.memory.specs.Bus.{Bus, read_of, admission_of}
 use Rattle.decode.specs.declared.Instr.{Instr}
 use Rattle.decode.specs.declared.Instr.TheVariants.{Hlt, Control, Jump, Single, Gswd, Nop, Sin, Shift, Register, Branch, Store, Read}
-use Rattle.decode.specs.declared.Decoded.{Decoded}
-use Rattle.decode.specs.declared.Decoded.TheVariants.{Known}
 use Rattle.decode.specs.Fields.{is_nopp}
 use Rattle.decode.specs.Decode.{decode_at}
 use Rattle.decode.specs.Rows.{interruptible_entry, branch_cycles, branch_entry, row_of}
@@ -31,14 +29,14 @@ use Rattle.guarantees.specs.Grants.{is_grant, is_untaken, decoded_untaken, step_
 
 -- a machine that stands at a place of the walk, where a request can't yet be heard
 pub record Here (m : Machine) (b : Bus) (p : Place) : Type 0 where
-  pub admitted : admission_of b ≡ Admitted
+  pub admitted : admission_of b ≡ Ok (tt {0})
   pub pc : register 7 m ≡ p.address
   pub mark : m.switches.d ≡ p.double
   pub running : m.running.halted ≡ false
   pub unready : m.running.ready ≡ false
 
 -- once ready, and with the request low, the bus is granted
-pub step-granted : (m : Machine) (b : Bus) (l : Lines) → admission_of b ≡ Admitted → m.running.halted ≡ false → m.running.ready ≡ true → l.busrq ≡ false → is_grant (step_of m b l).answer ≡ true
+pub step-granted : (m : Machine) (b : Bus) (l : Lines) → admission_of b ≡ Ok (tt {0}) → m.running.halted ≡ false → m.running.ready ≡ true → l.busrq ≡ false → is_grant (step_of m b l).answer ≡ true
 unfolding plan_of noted granted
 step-granted m b l p q r s =
     ap (λ (o : Outcome). is_grant o.answer)
@@ -90,9 +88,9 @@ module _ (m : Machine) (b : Bus) (l : Lines) where
   abbrev pub step_made : StepMade
   step_made = record { machine = m; bus = b; lines = l; left = step_of m b l }
 
-  module _ {p : Place} {i : Instr} (h : Here m b p) (e : decode_at (read_of b) p.address p.double ≡ Known i) where
+  module _ {p : Place} {i : Instr} (h : Here m b p) (e : decode_at (read_of b) p.address p.double ≡ Some i) where
     -- what the machine's own address and mark decode to
-    decodes : decoded m b ≡ Known i
+    decodes : decoded m b ≡ Some i
     decodes = ap₂ (λ (a : ℕ) (d : Bool). decode_at (read_of b) a d) h.pc h.mark ∙ e
 
     plans : plan_of (noted m l) l ≡ Executing
@@ -114,7 +112,7 @@ module _ (m : Machine) (b : Bus) (l : Lines) where
 
     pub step-untaken : step_untaken step_made ≡ is_untaken i m l
     unfolding step_untaken
-    step-untaken = ap (λ (x : Decoded). decoded_untaken x m l) decodes
+    step-untaken = ap (λ (x : Option Instr). decoded_untaken x m l) decodes
 
     pub step-charged : step_cycles + cond (step_untaken step_made) 2 0 ≡ (row_of i p.double).cycles
     step-charged = rw (step-untaken, ← h.mark) (charged i m.switches.d m l)

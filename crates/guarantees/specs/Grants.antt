@@ -1,10 +1,8 @@
 -- A list of steps up to its first grant: the words in which demand 3 speaks of it.
-use Rattle.std.specs.Prelude.{Bool, false, not, cond, ◌&&◌, ◌||◌, List, [], ◌∷◌, eqb}
+use Rattle.std.specs.Prelude.{Bool, false, not, cond, ◌&&◌, ◌||◌, Option, None, Some, List, [], ◌∷◌, eqb}
 use Rattle.refusal.specs.Report.{Report, refused, answered}
 use Rattle.decode.specs.declared.Instr.{Instr}
 use Rattle.decode.specs.declared.Instr.TheVariants.{Hlt, Control, Jump, Single, Gswd, Nop, Sin, Shift, Register, Branch, Store, Read}
-use Rattle.decode.specs.declared.Decoded.{Decoded}
-use Rattle.decode.specs.declared.Decoded.TheVariants.{Unspecified, Known}
 use Rattle.decode.specs.Fields.{is_nopp}
 use Rattle.cpu.specs.declared.Lines.{Lines}
 use Rattle.cpu.specs.Machine.{Machine}
@@ -43,9 +41,9 @@ is_untaken (Branch b) m l = not (is_nopp b) && not (is_taken m.flags l.external 
 is_untaken (Store s d) m l = false
 is_untaken (Read row s d) m l = false
 
-abbrev pub decoded_untaken : Decoded → Machine → Lines → Bool
-decoded_untaken Unspecified m l = false
-decoded_untaken (Known i) m l = is_untaken i m l
+abbrev pub decoded_untaken : Option Instr → Machine → Lines → Bool
+decoded_untaken None m l = false
+decoded_untaken (Some i) m l = is_untaken i m l
 
 -- .. the instruction at which a step's machine stands
 unfoldable pub step_untaken : StepMade → Bool

@@ -6,7 +6,7 @@ use native.Mathlib.Omega.{arith}
 use borrow.Rule.Slice.PartMut.{mid_of, put_mid, mid_len}
 use lib.Dec.{lit<}
 use lib.ListN.{length, take, drop, length-append, length-take, length-drop}
-use lib.Seq.{take_all, drop-drop}
+use lib.Seq.{take_all, take-append_seam, drop-append_seam}
 use borrow.Author.Tests.{lt-ltb, le-ltb}
 use Rattle.refusal.specs.declared.Refusal.TheVariants.{RoomTooSmall}
 use Rattle.refusal.proofs.ReportLaws.{no_answer, same_answer, same-refusal}
@@ -102,118 +102,106 @@ sums-more : (x y : ℕ) {s t r : ℕ} → s ≡ x % 65536 → t ≡ y % 65536 �
 unfolding wrap_add
 sums-more x y e f g = rw (g, e, f) (mod-left x (y % 65536) ∙ mod-right x y)
 
--- The writer's loop: the records of the region's words before start stand in the room.
-pub record Emitting (room₀ : List ℕ) (first : ℕ) (region room : List ℕ) (at start sum : ℕ) : Type 0 where
+-- The writer's loop: the records of the region's words before those that are left stand in the room, and the next one begins at `address`.
+pub record Emitting (room₀ : List ℕ) (first : ℕ) (region left room : List ℕ) (at address sum : ℕ) : Type 0 where
   pub done : List Record
-  pub within : start ≤ length region
-  pub all : done ++ cut_of record_limit (first + start) (drop start region) ≡ cut_of record_limit first region
+  pub within : address + length left ≡ first + length region
+  pub all : done ++ cut_of record_limit address left ≡ cut_of record_limit first region
   pub fits : head_bytes + tail_bytes + length (records_words (cut_of record_limit first region)) * 2 ≤ length room₀
   pub place : at ≡ head_bytes + length (records_words done) * 2
   pub laid : room ≡ put_words room₀ head_bytes (records_words done)
   pub sums : sum ≡ records_sum done % 65536
 
 pub emitting : (room : List ℕ) (first : ℕ) (region : List ℕ) → image_length head_bytes record_limit (length region) ≤ length room
-    → Emitting room first region room head_bytes 0 0
+    → Emitting room first region region room head_bytes first 0
 emitting room first region h =
-    let z : first + 0 ≡ first = omega arith in
     let l = words-of-cut first region in
     record {
       done = [];
-      within = omega arith;
-      all = rw z;
+      within = refl;
+      all = refl;
       fits = omega arith;
       place = refl;
       laid = sym (put-fits room head_bytes [] (omega arith));
       sums = refl;
     }
 
-pub emitting-length : {room₀ : List ℕ} {first : ℕ} {region room : List ℕ} {at start sum : ℕ} → Emitting room₀ first region room at start sum → length room ≡ length room₀
+pub emitting-length : {room₀ : List ℕ} {first : ℕ} {region left room : List ℕ} {at address sum : ℕ}
+    → Emitting room₀ first region left room at address sum → length room ≡ length room₀
 emitting-length {room₀} k = ap length k.laid ∙ put-length room₀ head_bytes (records_words k.done)
 
-module _ {room₀ : List ℕ} {first : ℕ} {region room : List ℕ} {at start sum : ℕ} (k : Emitting room₀ first region room at start sum) where
-  left : List ℕ
-  left = drop start region
+-- What is left, some words, is a record's and the rest.
+pub record Taken (left ws rest : List ℕ) : Type 0 where
+  pub some : 0 < length left
+  pub is : left ≡ ws ++ rest
+  pub size : length ws ≡ min record_limit (length left)
 
-  next : Record
-  next = record_over (first + start) (take record_limit left)
+module _ {left ws rest : List ℕ} (x : Taken left ws rest) where
+  same-length : length (take record_limit left) ≡ length ws
+  same-length = length-take record_limit left ∙ sym x.size
 
-  later : List Record
-  later = cut_of record_limit (first + start + length (take record_limit left)) (drop record_limit left)
+  words-are : take record_limit left ≡ ws
+  words-are = sym (take-of-take record_limit left) ∙ rw (same-length, x.is) (take-append_seam ws rest)
 
-  module _ (h : start < length region) where
+  rest-is : drop record_limit left ≡ rest
+  rest-is = sym (drop_of_take record_limit left) ∙ rw (same-length, x.is) (drop-append_seam ws rest)
+
+module _ {room₀ : List ℕ} {first : ℕ} {region left room : List ℕ} {at address sum : ℕ} (k : Emitting room₀ first region left room at address sum) where
+  -- one record more, of the words that the code takes off
+  module _ {ws rest : List ℕ} (x : Taken left ws rest) where
+    next : Record
+    next = record_over address ws
+
+    later : List Record
+    later = cut_of record_limit (address + length ws) rest
+
     cut-next : cut_of record_limit first region ≡ k.done ++ (next ∷ later)
-    unfolding left next later
+    unfolding next later
     cut-next =
         sym k.all
-        ∙ ap (λ (l : List Record). k.done ++ l) (cut-some record_limit some_words (first + start) (drop start region) (omega (arith, length-drop start region)))
+        ∙ ap (λ (l : List Record). k.done ++ l) (cut-some record_limit some_words address left x.some ∙ rw (words-are x, rest-is x))
 
-    next-length : length next.words ≡ min record_limit (length region - start)
-    unfolding next left
-    next-length = length-take record_limit (drop start region) ∙ ap (min record_limit) (length-drop start region)
+    pub emitting-fits : at + record_bytes (length ws) ≤ length room
+    unfolding next
+    emitting-fits =
+        let p = k.place in
+        let g = rw (cut-next, records-append k.done (next ∷ later)) at k.fits in
+        let la = length-append (records_words k.done) (records_words (next ∷ later)) in
+        let lb = length-append ws (records_words later) in
+        omega (arith, emitting-length k)
 
-    -- one record more, of c words, which the code reads off a slice and puts over a part of the room
-    module _ {c : ℕ} (e : c ≡ min record_limit (length region - start)) where
-      next-count : c ≡ length next.words
-      next-count = e ∙ sym next-length
+    pub emitting-room : length (mid_of at (at + record_bytes (length ws) - at) room) ≡ record_bytes (length ws)
+    emitting-room = mid_len at (at + record_bytes (length ws)) room emitting-fits ∙ omega arith
 
-      next-words : take (start + c - start) (drop start region) ≡ next.words
-      unfolding next left
-      next-words =
-          let f : start + c - start ≡ length next.words = omega (arith, next-count) in
-          rw f (take-of-take record_limit (drop start region))
-
-      pub emitting-fits : at + record_bytes c ≤ length room
-      emitting-fits =
-          let p = k.place in
-          let g = rw (cut-next, records-append k.done (next ∷ later)) at k.fits in
-          let la = length-append (records_words k.done) (records_words (next ∷ later)) in
-          let lb = length-append next.words (records_words later) in
-          omega (arith, emitting-length k, next-count)
-
-      -- the slice has as many words, and the part as many bytes as their record
-      pub emitting-words : length (take (start + c - start) (drop start region)) ≡ c
-      emitting-words = ap length next-words ∙ sym next-count
-
-      pub emitting-room : length (mid_of at (at + record_bytes c - at) room) ≡ record_bytes (length (take (start + c - start) (drop start region)))
-      emitting-room = rw emitting-words (mid_len at (at + record_bytes c) room emitting-fits ∙ omega arith)
-
-      next-left : drop (start + c) region ≡ drop record_limit left
-      unfolding next left
-      next-left = rw (next-count, ← drop-drop (length next.words) start region) (drop_of_take record_limit (drop start region))
-
-      pub emitting-on : {part : List ℕ} {t sum' : ℕ}
-          → part ≡ bytes_of (record_words (record_over (first + start) (take (start + c - start) (drop start region))))
-          → t ≡ record_sum (record_over (first + start) (take (start + c - start) (drop start region))) % 65536 → sum' ≡ wrap_add sum t
-          → Emitting room₀ first region (put_mid at (at + record_bytes c - at) room part) (at + record_bytes c) (start + c) sum'
-      unfolding next later
-      emitting-on {part} {t} {sum'} p q s =
-          let n = records_words k.done in
-          let w = record_words next in
-          let a : records_words (k.done ++ (next ∷ [])) ≡ n ++ w = records-append k.done (next ∷ []) ∙ ap (λ (l : List ℕ). n ++ l) (append-nil w) in
-          let la = length-append n w in
-          let pl = k.place in
-          let nc = next-count in
-          let f : first + (start + c) ≡ first + start + length next.words = omega arith in
-          let v : t ≡ record_sum next % 65536 = rw next-words at q in
-          let o : put_mid at (at + record_bytes c - at) room part ≡ put_words room at w =
-          rw (p, next-words) (part-put room at (at + record_bytes c) w (omega arith) emitting-fits) in
-          record {
-            done = k.done ++ (next ∷ []);
-            within = omega (arith, next-length);
-            all = rw (append_assoc k.done (next ∷ []), f, next-left) (sym cut-next);
-            fits = k.fits;
-            place = rw a (omega arith);
-            laid = laid_more room₀ head_bytes n w k.laid k.place o ∙ ap (put_words room₀ head_bytes) (sym a);
-            sums =
-                sums-more (records_sum k.done) (record_sum next) k.sums v s
-                ∙ ap (λ (x : ℕ). x % 65536) (omega (arith, sums-append k.done (next ∷ [])));
-          }
+    pub emitting-on : {part : List ℕ} {t sum' : ℕ}
+        → part ≡ bytes_of (record_words (record_over address ws)) → t ≡ record_sum (record_over address ws) % 65536 → sum' ≡ wrap_add sum t
+        → Emitting room₀ first region rest (put_mid at (at + record_bytes (length ws) - at) room part) (at + record_bytes (length ws)) (address + length ws) sum'
+    unfolding next later
+    emitting-on {part} {t} {sum'} p q s =
+        let n = records_words k.done in
+        let w = record_words next in
+        let a : records_words (k.done ++ (next ∷ [])) ≡ n ++ w = records-append k.done (next ∷ []) ∙ ap (λ (l : List ℕ). n ++ l) (append-nil w) in
+        let la = length-append n w in
+        let pl = k.place in
+        let ln : length left ≡ length ws + length rest = ap length x.is ∙ length-append ws rest in
+        let o : put_mid at (at + record_bytes (length ws) - at) room part ≡ put_words room at w =
+        rw p (part-put room at (at + record_bytes (length ws)) w (omega arith) emitting-fits) in
+        record {
+          done = k.done ++ (next ∷ []);
+          within = omega (arith, k.within);
+          all = rw (append_assoc k.done (next ∷ [])) (sym cut-next);
+          fits = k.fits;
+          place = rw a (omega arith);
+          laid = laid_more room₀ head_bytes n w k.laid k.place o ∙ ap (put_words room₀ head_bytes) (sym a);
+          sums =
+              sums-more (records_sum k.done) (record_sum next) k.sums q s
+              ∙ ap (λ (x : ℕ). x % 65536) (omega (arith, sums-append k.done (next ∷ [])));
+        }
 
   -- nothing is left
-  pub emitting-end : length region ≤ start
-      → RecordsPut room₀ (cut_of record_limit first region) room sum
+  pub emitting-end : length left ≡ 0 → RecordsPut room₀ (cut_of record_limit first region) room sum
   emitting-end h =
-      let n = cut-none record_limit some_words (first + start) (drop start region) (omega (arith, length-drop start region)) in
+      let n = cut-none record_limit some_words address left (omega arith) in
       let e : cut_of record_limit first region ≡ k.done = sym k.all ∙ ap (λ (l : List Record). k.done ++ l) n ∙ append-nil k.done in
       rw e (record { sum = k.sums; room = k.laid })
 

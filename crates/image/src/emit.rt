@@ -40,19 +40,16 @@ fn put_records(room: &mut [u8], first: u16, region: &[u16]) -> u16
     ensures { RecordsPut room.old (cut_of record_limit first region.now) room.new result }
 {
     let mut at = format::HEAD_BYTES;
-    let mut start = 0;
+    let mut address = first as usize;
     let mut sum: u16 = 0;
-    while start < region.len() {
-        let count = (region.len() - start).min(format::RECORD_LIMIT);
-        let end = start + count;
-        let address = (first as usize + start) as u16;
+    for words in region.chunks(format::RECORD_LIMIT) {
         // one number, by which the compiler sees that all of the record fits its part of the room
-        let bytes = format::RECORD_HEAD_BYTES + count * 2;
+        let bytes = format::RECORD_HEAD_BYTES + words.len() * 2;
         let next = at + bytes;
-        let added = put_record(&mut room[at..next], address, &region[start..end]);
+        let added = put_record(&mut room[at..next], address as u16, words);
         sum = word::wrapping_add(sum, added);
         at = next;
-        start = end;
+        address += words.len();
     }
     sum
 }

@@ -4,7 +4,9 @@ use Rattle.std.specs.Prelude.{ℕ, suc, ◌≡◌, Bool, true, false, cond, ◌�
 use Rattle.memory.specs.declared.map.Kind.TheVariants.{Rom}
 use Rattle.memory.specs.declared.map.Range.{Range}
 use Rattle.memory.specs.declared.map.Board.{Board}
+use Rattle.memory.specs.declared.near.View.{View}
 use Rattle.memory.specs.Map.{holds, ranges_of, deciding, Cell, rom, ram16, ram8, empty, cell_at}
+use Rattle.memory.specs.Bus.{bus_on, read_of}
 
 -- the board with a range at hand in front of its map
 abbrev pub in_front : Range → Board → Board
@@ -31,3 +33,7 @@ is_empty empty = true
 -- no word of the range is empty
 abbrev pub Near : Board → Range → Type 0
 Near b r = (a : ℕ) → holds r a ≡ true → is_empty (cell_at b a) ≡ false
+
+-- what the reads of a view give, address by address
+abbrev pub reads : View → ℕ → ℕ
+reads v = read_of (bus_on (in_front v.near v.board) v.words.now)

@@ -9,11 +9,7 @@ use native.Mathlib.Numerals.{add-one}
 use native.Mathlib.Omega.{arith}
 use lib.ListN.{get_or}
 use Rattle.refusal.specs.Report.{answered}
-use Rattle.memory.specs.declared.map.Range.{Range}
-use Rattle.memory.specs.declared.map.Board.{Board}
-use Rattle.memory.specs.Bus.{Bus, bus_on, read_of, admission_of}
-use Rattle.memory.specs.Near.{in_front, no_range, near_of}
-use Rattle.memory.proofs.NearLaws.{near-laws}
+use Rattle.memory.specs.Bus.{Bus, read_of, admission_of}
 use Rattle.bitset.specs.Bits.{contains}
 use Rattle.decode.specs.Fields.{opcode_of}
 use Rattle.decode.specs.Decode.{instruction_of, specified}
@@ -23,15 +19,11 @@ use Rattle.meter.specs.declared.walk.Place.{Place}
 use Rattle.std.specs.declared.ops.ControlFlow.{ControlFlow}
 use Rattle.std.specs.declared.ops.ControlFlow.TheVariants.{Continue, Break}
 use Rattle.meter.specs.Answer.{Answer, Named, answer_of}
-use Rattle.meter.specs.Walk.{limit_of, start_at, ends, goes_on, turned, decoded_turn, turn_at, after_turn, walk_on, walk_from}
+use Rattle.meter.specs.Walk.{limit_of, start_at, Turn, ends, goes_on, turned, decoded_turn, turn_at, after_turn, walk_on, walk_from}
 use Rattle.meter.specs.Meter.{wait_of, named_before, named_of}
 use Rattle.meter.specs.Inner.Stretch.{nothing_named, named_with, starts_in, StretchAdds}
 use Rattle.meter.proofs.WalkLaws.{turn-goes, turn-adds, walk-equation, wait-answers}
 use Rattle.meter.proofs.StretchLaws.{named_none, named_start, named-pass, word-tells, adds-nothing}
-
--- the loops read with a range at hand, the one looked up first, and so what the map alone reads
-pub at_hand : {none near : Range} (b : Board) (m : List ℕ) (a : ℕ) → none ≡ no_range → near ≡ near_of b none a → read_of (bus_on (in_front near b) m) ≡ read_of (bus_on b m)
-at_hand b m a e f = near-laws.reads b _ m (rw (f, e) (near-laws.moves b no_range a (near-laws.none b)))
 
 -- the walk from a start, at a place of it
 pub record Walking (read : ℕ → ℕ) (limit start : ℕ) (p : Place) : Type 0 where
@@ -42,10 +34,10 @@ pub walking : {read : ℕ → ℕ} {limit start : ℕ} {p : Place} → p ≡ sta
 unfolding walk_from start_at
 walking e = rw e (record { same = refl; low = omega arith })
 
--- the loops decode in steps, the opcode's instruction and then its form: a turn of what is decoded so is the walk's
-pub decoded-turn : {read : ℕ → ℕ} {limit start v : ℕ} {p : Place} {i : Instr} {x : Option Instr} → Walking read limit start p → v ≡ read p.address → i ≡ instruction_of (opcode_of v) → x ≡ specified read p.address i p.double → decoded_turn limit p x ≡ turn_at read limit p
+-- a turn decodes in steps, the opcode's instruction and then its form: what is decoded so is the walk's
+pub decoded-turn : (read : ℕ → ℕ) (limit : ℕ) (p : Place) {v : ℕ} {i : Instr} {x : Option Instr} {t : Turn} → t ≡ decoded_turn limit p x → v ≡ read p.address → i ≡ instruction_of (opcode_of v) → x ≡ specified read p.address i p.double → t ≡ turn_at read limit p
 unfolding turn_at
-decoded-turn {read} {limit} {p = p} k e f g = rw (g, f, e) (ap (decoded_turn limit p) (decodes-in-steps.steps read p.address p.double))
+decoded-turn read limit p h e f g = h ∙ rw (g, f, e) (ap (decoded_turn limit p) (decodes-in-steps.steps read p.address p.double))
 
 -- the code's turn at a place of the walk
 abbrev pub Turns : {read : ℕ → ℕ} {limit start : ℕ} {p : Place} → Walking read limit start p → ControlFlow Walked Place → Type 0

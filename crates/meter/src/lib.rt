@@ -10,8 +10,9 @@ ghost use Rattle.meter.specs.Meter.{wait_of, scan_admission, region_of, region_r
 use crate::scan::Region;
 use crate::walk::Limit;
 use memory::map::Board;
-use memory::near;
+use memory::near::View;
 use refusal::Refusal;
+use std::ops::ControlFlow;
 
 mod scan;
 mod walk;
@@ -49,8 +50,14 @@ pub fn wait(board: Board, mem: &[u16], address: u16, limit: u16) -> Result<Walke
 {
     memory::admit(board, mem)?;
     let limit = Limit::given(limit)?;
-    let at_hand = near::near_to(board, near::no_range(), address);
-    Ok(walk::walk_from(board, at_hand, mem, address, limit))
+    let view = View::at(board, mem, address);
+    let mut place = walk::start_at(address);
+    loop {
+        match walk::turn_at(&view, limit, place) {
+            ControlFlow::Break(walked) => return Ok(walked),
+            ControlFlow::Continue(after) => place = after,
+        }
+    }
 }
 
 // The region that the meter is to scan, in either mode, unless it is not let in.

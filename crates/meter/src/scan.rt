@@ -12,7 +12,8 @@ ghost use Rattle.meter.specs.Inner.Stretch.{named_with, starts_in, StretchAdds};
 use crate::walk::Limit;
 use crate::{Findings, LongestWait, Walked, walk};
 use memory::map::Board;
-use memory::near;
+use memory::near::View;
+use std::ops::ControlFlow;
 
 // The word by which every address is a start.
 pub(crate) const EVERY_ADDRESS: u64 = 0xFFFF_FFFF_FFFF_FFFF;
@@ -64,13 +65,19 @@ pub(crate) fn stretch(
 ) -> Findings
     ensures { StretchAdds (starts_in starts) (walk_from (read_of (bus_on board mem.now)) region.limit.cycles) region.first (suc region.last) (named_in before) (named_in result) }
 {
-    let at_hand = near::near_to(board, near::no_range(), region.first);
+    let view = View::at(board, mem, region.first);
     let mut findings = before;
     // 64 bits wide like `starts`, so that no turn widens it
     'scan: for address in region.first as u64..=region.last as u64 {
         if (starts >> (address % 64)) % 2 == 1 {
             let start = address as u16;
-            let walked = walk::walk_from(board, at_hand, mem, start, region.limit);
+            let mut place = walk::start_at(start);
+            let walked = 'walk: loop {
+                match walk::turn_at(&view, region.limit, place) {
+                    ControlFlow::Break(answer) => break 'walk answer,
+                    ControlFlow::Continue(onward) => place = onward,
+                }
+            };
             findings = after(findings, walked, start);
         }
     }

@@ -1,14 +1,12 @@
 // The walk over the code: one turn of it is one instruction. The meters for an address and for a region share it.
 ghost use Rattle.std.specs.Prelude.{◌≡◌, ◌≤◌, ◌<◌, MatchResult};
 ghost use Rattle.refusal.specs.declared.Refusal.TheVariants.{LimitTooHigh};
-ghost use Rattle.memory.specs.Bus.{bus_on, read_of};
-ghost use Rattle.memory.specs.Near.{in_front};
-ghost use Rattle.meter.specs.Answer.{answer_of};
-ghost use Rattle.meter.specs.Walk.{highest_limit, start_at, limit_of, turned, decoded_turn, walk_from};
+ghost use Rattle.memory.specs.Near.{reads};
+ghost use Rattle.meter.specs.Walk.{highest_limit, start_at, limit_of, turned, decoded_turn, turn_at};
 
 use crate::Walked;
 use decode::{Instr, rows};
-use memory::map::{Board, Range};
+use memory::near::View;
 use refusal::Refusal;
 use std::ops::ControlFlow;
 
@@ -52,7 +50,7 @@ pub struct Place {
 }
 
 #[tactic(auto, unfolding(crate::specs::Walk::start_at))]
-fn start_at(address: u16) -> Place
+pub(crate) fn start_at(address: u16) -> Place
     ensures { result ≡ start_at address }
 {
     Place {
@@ -90,25 +88,13 @@ fn turn(decoded: Option<Instr>, limit: Limit, place: Place) -> ControlFlow<Walke
     })
 }
 
-// The walk from an address, with a range at hand. Made one with each caller: the loops of `scan::stretch` would else call it for each start.
+// One turn of the walk: the instruction at its place. Made one with the loops that turn, which would else call it.
 #[inline(always)]
-pub(crate) fn walk_from(
-    board: Board,
-    at_hand: Range,
-    mem: &[u16],
-    start: u16,
-    limit: Limit,
-) -> Walked
-    ensures { answer_of result ≡ walk_from (read_of (bus_on (in_front at_hand board) mem.now)) limit.cycles start }
+pub(crate) fn turn_at(view: &View, limit: Limit, place: Place) -> ControlFlow<Walked, Place>
+    requires { place.sum ≤ limit.cycles }
+    ensures { turned result ≡ turn_at (reads view.now) limit.cycles place }
 {
-    let mut place = start_at(start);
-    'walk: loop {
-        let at = place.address;
-        let instr = decode::instruction(memory::read(board, at_hand, mem, at) % 1024);
-        let decoded = decode::specified_at(board, at_hand, mem, at, instr, place.double);
-        match turn(decoded, limit, place) {
-            ControlFlow::Break(walked) => break 'walk walked,
-            ControlFlow::Continue(after) => place = after,
-        }
-    }
+    let instr = decode::instruction(view.read(place.address) % 1024);
+    let decoded = decode::specified_at(view, place.address, instr, place.double);
+    turn(decoded, limit, place)
 }

@@ -11,8 +11,9 @@ ghost use Rattle.reach.specs.Reach.{ReachedSet};
 use crate::ways::Ways;
 use crate::{Node, ways};
 use bitset::WORDS;
-use memory::map::{Board, Range};
+use memory::map::Board;
 use memory::near;
+use memory::near::View;
 
 // An address waits at most once, since it is put there when it is marked.
 const STACK: usize = 65536;
@@ -51,29 +52,26 @@ fn push(clear: &mut [u64; WORDS], stack: &mut Stack, address: u16)
 
 // From an address on, as long as the path leads to a node that is new: what else it leads to waits on the stack.
 fn follow(
-    board: Board,
-    first: Range,
-    mem: &[u16],
+    mut view: View,
     clear: &mut [u64; WORDS],
     set: &mut [u64; WORDS],
     writers: &mut [u64; WORDS],
     stack: &mut Stack,
     from: u16,
 )
-    requires { (marked clear.old set.old (clear_at from) ≡ true) × Exploring (read_of (bus_on board mem.now)) (λ n. n ≡ clear_at from) clear.old set.old writers.old stack.old.waiting stack.old.depth × Near board first }
-    ensures { Exploring (read_of (bus_on board mem.now)) Idle clear.new set.new writers.new stack.new.waiting stack.new.depth × Grown (successors (read_of (bus_on board mem.now))) clear.old set.old clear.new set.new stack.old.depth stack.new.depth }
+    requires { (marked clear.old set.old (clear_at from) ≡ true) × Exploring (read_of (bus_on view.board view.words.now)) (λ n. n ≡ clear_at from) clear.old set.old writers.old stack.old.waiting stack.old.depth × Near view.board view.near }
+    ensures { Exploring (read_of (bus_on view.entry.board view.entry.words.now)) Idle clear.new set.new writers.new stack.new.waiting stack.new.depth × Grown (successors (read_of (bus_on view.entry.board view.entry.words.now))) clear.old set.old clear.new set.new stack.old.depth stack.new.depth }
 {
-    let mut near = first;
     let mut node = Node {
         address: from,
         double: false,
     };
     loop {
-        let fetched = near::fetch(board, near, mem, node.address);
-        near = fetched.near;
+        let fetched = view.fetch(node.address);
+        view.near = fetched.near;
         let instr = decode::instruction(fetched.word % 1024);
-        let decoded = decode::specified_at(board, near, mem, node.address, instr, node.double);
-        let ways = ways::ways_of(board, near, mem, node, decoded);
+        let decoded = decode::specified_at(&view, node.address, instr, node.double);
+        let ways = ways::ways_of(&view, node, decoded);
         // Each way marks its own node: with one mark for both the compiler packs a node into one number, which takes 5 machine instructions more a node.
         match ways {
             Ways::End => return,
@@ -125,6 +123,11 @@ pub(crate) fn explore(
         stack.depth -= 1;
         let from = stack.waiting[stack.depth];
         near = near::near_to(board, near, from);
-        follow(board, near, mem, clear, set, writers, &mut stack, from);
+        let view = View {
+            board,
+            near,
+            words: mem,
+        };
+        follow(view, clear, set, writers, &mut stack, from);
     }
 }

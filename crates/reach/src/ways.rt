@@ -1,7 +1,6 @@
 // Where a path goes on from an instruction, or how it ends there.
 ghost use Rattle.std.specs.Prelude.{◌≡◌, [], ◌∷◌};
-ghost use Rattle.memory.specs.Bus.{bus_on, read_of};
-ghost use Rattle.memory.specs.Near.{in_front};
+ghost use Rattle.memory.specs.Near.{reads};
 ghost use Rattle.decode.specs.Fields.{return_of};
 ghost use Rattle.reach.specs.Ways.{clear_at, onward_of, branch_ways, jump_ways};
 ghost use Rattle.reach.specs.Inner.Explore.{GoesTo, WaysFrom};
@@ -9,7 +8,7 @@ ghost use Rattle.reach.specs.Inner.Explore.{GoesTo, WaysFrom};
 use crate::Node;
 use decode::rows::Row;
 use decode::{Instr, fields, rows};
-use memory::map::{Board, Range};
+use memory::near::View;
 
 // It ends, by a write to R7 or otherwise; or it goes on at one node, or at one node and at a target, which is reached with D clear.
 #[derive(Clone, Copy)]
@@ -68,14 +67,8 @@ fn jump_ways(next: Node, target: u16, second: u16) -> Ways
 }
 
 // From an instruction, once it is decoded.
-pub(crate) fn ways_of(
-    board: Board,
-    near: Range,
-    mem: &[u16],
-    node: Node,
-    decoded: Option<Instr>,
-) -> Ways
-    ensures { WaysFrom (read_of (bus_on (in_front near board) mem.now)) node decoded result }
+pub(crate) fn ways_of(view: &View, node: Node, decoded: Option<Instr>) -> Ways
+    ensures { WaysFrom (reads view.now) node decoded result }
 {
     let Some(instr) = decoded else {
         return Ways::End;
@@ -91,12 +84,12 @@ pub(crate) fn ways_of(
     let next = onward(node, row);
     match instr {
         Instr::Jump => {
-            let second = memory::read(board, near, mem, word::wrapping_add(at, 1));
-            let third = memory::read(board, near, mem, word::wrapping_add(at, 2));
+            let second = view.read(word::wrapping_add(at, 1));
+            let third = view.read(word::wrapping_add(at, 2));
             jump_ways(next, fields::jump_target(second, third), second)
         }
         Instr::Branch(b) => {
-            let displacement = memory::read(board, near, mem, word::wrapping_add(at, 1));
+            let displacement = view.read(word::wrapping_add(at, 1));
             branch_ways(next, fields::branch_target(at, b, displacement), b)
         }
         // The rows of one or two words apart: so the compiler takes the 1 for a constant, which saves two machine instructions a node.
