@@ -43,8 +43,7 @@ fn push(clear: &mut [u64; WORDS], stack: &mut Stack, address: u16)
     requires { stack.old.depth ≤ size_of clear.old }
     ensures { Pushes clear.old clear.new stack.old.waiting stack.new.waiting stack.old.depth stack.new.depth address }
 {
-    let new = bitset::insert(clear, address);
-    if new {
+    if bitset::insert(clear, address) {
         stack.waiting[stack.depth] = address;
         stack.depth += 1;
     }
@@ -80,16 +79,14 @@ fn follow(
                 return;
             }
             Ways::One(next) => {
-                let new = mark(clear, set, next);
-                if !new {
+                if !mark(clear, set, next) {
                     return;
                 }
                 node = next;
             }
             Ways::Two(next, target) => {
                 push(clear, stack, target);
-                let new = mark(clear, set, next);
-                if !new {
+                if !mark(clear, set, next) {
                     return;
                 }
                 node = next;
@@ -115,8 +112,8 @@ pub(crate) fn explore(
         waiting: [0; STACK],
         depth: 0,
     };
-    for entry in entries {
-        push(clear, &mut stack, *entry);
+    for &entry in entries {
+        push(clear, &mut stack, entry);
     }
     let mut near = near::no_range();
     while 0 < stack.depth {

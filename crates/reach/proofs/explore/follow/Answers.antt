@@ -23,32 +23,32 @@ returns-in-End c = let f = turn_end c.loop-writers.invariant.0 (turns (goal.at.r
 pub returns-in-Writes : goal.returns-in-Writes
 returns-in-Writes c = let f = turn-write c.loop-writers.invariant.0 (turns (goal.at.returns-in-Writes c).After-ways_of-ways) c.in-Writes.is c.insert.ensures.1 in (f.work, f.grown)
 
-pub returns-then-not-new : goal.returns-then-not-new
-returns-then-not-new c =
-    let o = leads-one c.loop-writers.invariant.0 (turns (goal.at.returns-then-not-new c).After-ways_of-ways) c.in-One.is in
-    let f = lead-back o c.mark-new.ensures c.if-not-new.true in (f.work, f.grown)
+pub returns-then-not-mark : goal.returns-then-not-mark
+returns-then-not-mark c =
+    let o = leads-one c.loop-writers.invariant.0 (turns (goal.at.returns-then-not-mark c).After-ways_of-ways) c.in-One.is in
+    let f = lead-back o c.mark.ensures c.if-not-mark.true in (f.work, f.grown)
 
 pub loop-writers-smaller-in-One : goal.loop-writers-smaller-in-One
 loop-writers-smaller-in-One c =
     let o = leads-one c.loop-writers.invariant.0 (turns (goal.at.loop-writers-smaller-in-One c).After-ways_of-ways) c.in-One.is in
-    lead-less o c.mark-new.ensures c.if-not-new.false
+    lead-less o c.mark.ensures c.if-not-mark.false
 
 pub loop-writers-preserved-in-One : goal.loop-writers-preserved-in-One
 loop-writers-preserved-in-One c =
     let o = leads-one c.loop-writers.invariant.0 (turns (goal.at.loop-writers-preserved-in-One c).After-ways_of-ways) c.in-One.is in
-    (lead-on o c.mark-new.ensures c.if-not-new.false, near_on _ _ _ c.loop-writers.invariant.1 (rw c.loop-writers.invariant.2 at c.fetch-fetched.ensures.near), c.loop-writers.invariant.2, c.loop-writers.invariant.3)
+    (lead-on o c.mark.ensures c.if-not-mark.false, near_on _ _ _ c.loop-writers.invariant.1 (rw c.loop-writers.invariant.2 at c.fetch-fetched.ensures.near), c.loop-writers.invariant.2, c.loop-writers.invariant.3)
 
-pub returns-then-not-new-2 : goal.returns-then-not-new-2
-returns-then-not-new-2 c =
-    let o = leads-two c.loop-writers.invariant.0 (turns (goal.at.returns-then-not-new-2 c).After-ways_of-ways) c.in-Two.is c.push.ensures in
-    let f = lead-back o c.mark-new-in-Two.ensures c.if-not-new-2.true in (f.work, f.grown)
+pub returns-then-not-mark-2 : goal.returns-then-not-mark-2
+returns-then-not-mark-2 c =
+    let o = leads-two c.loop-writers.invariant.0 (turns (goal.at.returns-then-not-mark-2 c).After-ways_of-ways) c.in-Two.is c.push.ensures in
+    let f = lead-back o c.mark-in-Two.ensures c.if-not-mark-2.true in (f.work, f.grown)
 
 pub loop-writers-smaller : goal.loop-writers-smaller
 loop-writers-smaller c =
     let o = leads-two c.loop-writers.invariant.0 (turns (goal.at.loop-writers-smaller c).After-ways_of-ways) c.in-Two.is c.push.ensures in
-    lead-less o c.mark-new-in-Two.ensures c.if-not-new-2.false
+    lead-less o c.mark-in-Two.ensures c.if-not-mark-2.false
 
 pub loop-writers-preserved : goal.loop-writers-preserved
 loop-writers-preserved c =
     let o = leads-two c.loop-writers.invariant.0 (turns (goal.at.loop-writers-preserved c).After-ways_of-ways) c.in-Two.is c.push.ensures in
-    (lead-on o c.mark-new-in-Two.ensures c.if-not-new-2.false, near_on _ _ _ c.loop-writers.invariant.1 (rw c.loop-writers.invariant.2 at c.fetch-fetched.ensures.near), c.loop-writers.invariant.2, c.loop-writers.invariant.3)
+    (lead-on o c.mark-in-Two.ensures c.if-not-mark-2.false, near_on _ _ _ c.loop-writers.invariant.1 (rw c.loop-writers.invariant.2 at c.fetch-fetched.ensures.near), c.loop-writers.invariant.2, c.loop-writers.invariant.3)
