@@ -1,13 +1,13 @@
 -- No two answers of the meter are reported alike.
 use Prim.Native.Nat.{ℕ}
-use mathlib.Core.Path.{◌≡◌, refl, ap, sym}
-use Rattle.std.specs.Prelude.{Option, Some, None, Ok, Err}
+use mathlib.Core.Path.{◌≡◌, refl}
+use Rattle.std.specs.Prelude.{Option, Some, None}
 use Rattle.refusal.proofs.ReportLaws.{told-apart, reported-apart}
 use Rattle.meter.specs.declared.Walked.{Walked}
 use Rattle.meter.specs.declared.Walked.TheVariants.{Wait, Over, Halts, Unspecified}
 use Rattle.meter.specs.declared.LongestWait.{LongestWait}
 use Rattle.meter.specs.declared.Findings.{Findings}
-use Rattle.meter.specs.Answer.{Answer, wait, over, halts, unspecified, Longest, no_wait, longest, Lowest, no_over, over_at, Named, answer_of, wait_report, longest_of, lowest_of, named_in, region_report}
+use Rattle.meter.specs.Answer.{Answer, wait, over, halts, unspecified, Longest, no_wait, longest, Lowest, no_over, over_at, Named, answer_of, longest_of, lowest_of, named_in}
 use Rattle.meter.specs.Laws.{ReportsApart}
 
 -- what a term stands for, read back
