@@ -1,5 +1,7 @@
 // The C interface: the functions of libcp1610.a. Each takes the caller's words, calls the proved function and hands its answer
-// back as words. docs/C-INTERFACE.md is the page for callers.
+// back as words. docs/C-INTERFACE.md is the page for callers, and fixes names, parameters and buffers with their lengths.
+// Each refuses what is short by an early return. An inner function that leaves by `?` would be no plainer: it would need each export's contract a second
+// time, over its Result.
 #![tactic(auto)]
 
 ghost use Rattle.std.specs.Prelude.{◌≡◌, [], ◌∷◌};

@@ -1,14 +1,13 @@
 -- No two answers of the meter are reported alike.
 use Prim.Native.Nat.{ℕ}
-use mathlib.Core.Path.{◌≡◌, refl, ap, sym}
-use Rattle.std.specs.Prelude.{Option, Some, None, Ok, Err}
-use Rattle.refusal.specs.Report.{OneToOne}
-use Rattle.refusal.proofs.ReportLaws.{no_answer, same_answer, same-refusal, told-apart}
+use mathlib.Core.Path.{◌≡◌, refl}
+use Rattle.std.specs.Prelude.{Option, Some, None}
+use Rattle.refusal.proofs.ReportLaws.{told-apart, reported-apart}
 use Rattle.meter.specs.declared.Walked.{Walked}
 use Rattle.meter.specs.declared.Walked.TheVariants.{Wait, Over, Halts, Unspecified}
 use Rattle.meter.specs.declared.LongestWait.{LongestWait}
 use Rattle.meter.specs.declared.Findings.{Findings}
-use Rattle.meter.specs.Answer.{Answer, wait, over, halts, unspecified, Longest, no_wait, longest, Lowest, no_over, over_at, Named, answer_of, wait_report, longest_of, lowest_of, named_in, region_report}
+use Rattle.meter.specs.Answer.{Answer, wait, over, halts, unspecified, Longest, no_wait, longest, Lowest, no_over, over_at, Named, answer_of, longest_of, lowest_of, named_in}
 use Rattle.meter.specs.Laws.{ReportsApart}
 
 -- what a term stands for, read back
@@ -50,17 +49,9 @@ findings-back : (f : Findings) → findings_back (named_in f) ≡ f
 unfolding findings_back
 findings-back f = rw (longest-back f.longest, lowest-back f.lowest)
 
-waits-apart : OneToOne wait_report
-waits-apart (Err a) (Err b) e = ap Err (same-refusal a b e)
-waits-apart (Err a) (Ok b) e = no_answer e
-waits-apart (Ok a) (Err b) e = no_answer (sym e)
-waits-apart (Ok a) (Ok b) e = ap Ok (told-apart answer_of walked_back walked-back a b (same_answer e))
-
-regions-apart : OneToOne region_report
-regions-apart (Err a) (Err b) e = ap Err (same-refusal a b e)
-regions-apart (Err a) (Ok b) e = no_answer e
-regions-apart (Ok a) (Err b) e = no_answer (sym e)
-regions-apart (Ok a) (Ok b) e = ap Ok (told-apart named_in findings_back findings-back a b (same_answer e))
-
 pub reports-apart : ReportsApart
-reports-apart = record { waits = waits-apart; regions = regions-apart }
+reports-apart =
+    record {
+      waits = reported-apart answer_of (told-apart answer_of walked_back walked-back);
+      regions = reported-apart named_in (told-apart named_in findings_back findings-back);
+    }

@@ -5,7 +5,6 @@ use Prim.Native.Nat.{ℕ, suc, ◌≤◌}
 use mathlib.Core.Path.{◌≡◌, refl, ap, sym, ◌∙◌}
 use mathlib.Core.Bool.{Bool, true, false, not, ◌||◌}
 use mathlib.Core.List.{List}
-use native.Mathlib.Omega.{arith}
 use lib.Dec.{eqb, ltb}
 use lib.ListN.{length}
 use borrow.Author.Tests.{ltb-false, le-ltb, eqb-true}
@@ -39,7 +38,7 @@ pub record RegionIn (b : Bus) (first last limit : ℕ) : Type 0 where
   pub low : limit ≤ 4096
 
 barred : {A : Type 0} {r : Refusal} → Err r ≡ Ok (tt {0}) → A
-barred e = let z : ◌≡◌ {A = ℕ} 0 1 = cc in absurd (omega arith)
+barred e = cc
 
 pub region-in : (b : Bus) (first last limit : ℕ) → scan_admission b first last limit ≡ Ok (tt {0}) → RegionIn b first last limit
 unfolding scan_admission

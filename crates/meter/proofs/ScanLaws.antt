@@ -80,9 +80,9 @@ module _ (Member : ℕ → Type 0) (answers : ℕ → Answer) (first e : ℕ) (l
 
   longest-next : (l : Longest) (x : Answer) → Member e → answers e ≡ x → LongestIs Member answers first e l → LongestIs Member answers first (suc e) (longer_of l x e)
   longest-next l (wait w) m q h = longest_wait l w m q h
-  longest-next l over m q h = longest-same l (λ i w k. let z : ◌≡◌ {A = ℕ} 0 1 = cc in omega arith) h
-  longest-next l halts m q h = longest-same l (λ i w k. let z : ◌≡◌ {A = ℕ} 0 1 = cc in omega arith) h
-  longest-next l (unspecified a) m q h = longest-same l (λ i w k. let z : ◌≡◌ {A = ℕ} 0 1 = cc in omega arith) h
+  longest-next l over m q h = longest-same l (λ i w k. cc) h
+  longest-next l halts m q h = longest-same l (λ i w k. cc) h
+  longest-next l (unspecified a) m q h = longest-same l (λ i w k. cc) h
 
   lowest-same : (o : Lowest) → (Member e → answers e ≡ over → ⊥) → LowestIs Member answers first e o → LowestIs Member answers first (suc e) o
   lowest-same no_over n h = λ s p k. ⊎_elim (λ t. h s t k) (λ t. n t.0 (ap answers (sym t.1) ∙ k)) (before-or-last p)
@@ -109,14 +109,14 @@ module _ (Member : ℕ → Type 0) (answers : ℕ → Answer) (first e : ℕ) (l
       }
 
   lowest-next : (o : Lowest) (x : Answer) → Member e → answers e ≡ x → LowestIs Member answers first e o → LowestIs Member answers first (suc e) (lower_of o x e)
-  lowest-next o (wait w) m q h = lowest-same o (λ i k. let z : ◌≡◌ {A = ℕ} 0 1 = cc in omega arith) h
+  lowest-next o (wait w) m q h = lowest-same o (λ i k. cc) h
   lowest-next o over m q h = lowest_over o m q h
-  lowest-next o halts m q h = lowest-same o (λ i k. let z : ◌≡◌ {A = ℕ} 0 1 = cc in omega arith) h
-  lowest-next o (unspecified a) m q h = lowest-same o (λ i k. let z : ◌≡◌ {A = ℕ} 0 1 = cc in omega arith) h
+  lowest-next o halts m q h = lowest-same o (λ i k. cc) h
+  lowest-next o (unspecified a) m q h = lowest-same o (λ i k. cc) h
 
 -- no address is one of a set and not
 not-both : {b : Bool} → b ≡ true → b ≡ false → ⊥
-not-both p q = let z : ◌≡◌ {A = ℕ} 0 1 = cc in omega arith
+not-both p q = cc
 
 module _ (is_start : ℕ → Bool) (answers : ℕ → Answer) (first : ℕ) where
   -- the starts among the n addresses from first on

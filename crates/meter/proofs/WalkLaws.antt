@@ -87,7 +87,7 @@ pub record TurnExceeds (x : Option Instr) (limit : ℕ) (p : Place) : Type 0 whe
 
 -- two turns of different kinds
 no-turn : {A : Type 0} {r : Answer} {p : Place} → ends r ≡ goes_on p → A
-no-turn e = let z : ◌≡◌ {A = ℕ} 0 1 = cc in absurd (omega arith)
+no-turn e = cc
 
 module _ (limit : ℕ) (p : Place) where
   goes_by : (x : Option Instr) {q : Place} → decoded_turn limit p x ≡ goes_on q → TurnGoes x limit p q
@@ -102,22 +102,22 @@ module _ (limit : ℕ) (p : Place) where
           rw (← n) (record { instr = i; known = refl; running = s; uninterruptible = h; address = refl; double = refl; sum = refl; room = r })
 
   waits-by : (x : Option Instr) {w : ℕ} → decoded_turn limit p x ≡ ends (wait w) → TurnWaits x p w
-  waits-by None e = let z : ◌≡◌ {A = ℕ} 0 1 = cc in absurd (omega arith)
+  waits-by None e = cc
   waits-by (Some i) {w} e =
       by_row limit p (row_of i p.double) (λ t. t ≡ ends (wait w) → TurnWaits (Some i) p w)
-      (λ a k. let z : ◌≡◌ {A = ℕ} 0 1 = cc in absurd (omega arith))
-      (λ k. let z : ◌≡◌ {A = ℕ} 0 1 = cc in absurd (omega arith))
+      (λ a k. cc)
+      (λ k. cc)
       (λ s h k. record { instr = i; known = refl; running = s; interruptible = h; sum = cc })
       (λ r s h k. no-turn (sym k))
       e
 
   exceeds-by : (x : Option Instr) → decoded_turn limit p x ≡ ends over → TurnExceeds x limit p
-  exceeds-by None e = let z : ◌≡◌ {A = ℕ} 0 1 = cc in absurd (omega arith)
+  exceeds-by None e = cc
   exceeds-by (Some i) e =
       by_row limit p (row_of i p.double) (λ t. t ≡ ends over → TurnExceeds (Some i) limit p)
       (λ a k. record { instr = i; known = refl; above = a })
-      (λ k. let z : ◌≡◌ {A = ℕ} 0 1 = cc in absurd (omega arith))
-      (λ s h k. let z : ◌≡◌ {A = ℕ} 0 1 = cc in absurd (omega arith))
+      (λ k. cc)
+      (λ s h k. cc)
       (λ r s h k. no-turn (sym k))
       e
 
@@ -179,7 +179,7 @@ above-turn (goes_on q) rest read limit p w e f ih = omega (arith, ih q f, turn-a
 
 counted-above : (n : ℕ) (read : ℕ → ℕ) (limit : ℕ) (p : Place) (w : ℕ) → walk_by n read limit p ≡ wait w → p.sum < w
 unfolding walk_by
-counted-above zero read limit p w e = let z : ◌≡◌ {A = ℕ} 0 1 = cc in absurd (omega arith)
+counted-above zero read limit p w e = cc
 counted-above (suc n) read limit p w e = above-turn (turn_at read limit p) (walk_by n read limit) read limit p w refl e (λ q f. counted-above n read limit q w f)
 
 pub walk-above : (read : ℕ → ℕ) (limit : ℕ) (p : Place) (w : ℕ) → walk_on read limit p ≡ wait w → p.sum < w

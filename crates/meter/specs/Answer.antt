@@ -1,8 +1,8 @@
 -- What the wait meter answers, in document 01's terms and numbers.
-use Rattle.std.specs.Prelude.{ℕ, Option, Some, None, Result, Ok, Err}
+use Rattle.std.specs.Prelude.{ℕ, Option, Some, None, Result}
 use Rattle.refusal.specs.declared.Refusal.{Refusal}
-use Rattle.refusal.specs.Refusals.{refusal_number}
-use Rattle.refusal.specs.Report.{Report, refused, answered}
+use Rattle.refusal.specs.Refusals.{reported}
+use Rattle.refusal.specs.Report.{Report}
 use Rattle.meter.specs.declared.Walked.{Walked}
 use Rattle.meter.specs.declared.Walked.TheVariants.{Wait, Over, Halts, Unspecified}
 use Rattle.meter.specs.declared.LongestWait.{LongestWait}
@@ -41,8 +41,7 @@ answer_of Halts = halts
 answer_of (Unspecified a) = unspecified a
 
 abbrev pub wait_report : Result Walked Refusal → Report Answer
-wait_report (Err r) = refused (refusal_number r)
-wait_report (Ok w) = answered (answer_of w)
+wait_report answer = reported answer_of answer
 
 abbrev pub longest_of : Option LongestWait → Longest
 longest_of None = no_wait
@@ -57,5 +56,4 @@ abbrev pub named_in : Findings → Named
 named_in f = record { longest_wait = longest_of f.longest; lowest_over = lowest_of f.lowest }
 
 abbrev pub region_report : Result Findings Refusal → Report Named
-region_report (Err r) = refused (refusal_number r)
-region_report (Ok f) = answered (named_in f)
+region_report answer = reported named_in answer

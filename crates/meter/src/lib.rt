@@ -52,6 +52,7 @@ pub fn wait(board: Board, mem: &[u16], address: u16, limit: u16) -> Result<Walke
     let limit = Limit::given(limit)?;
     let view = View::at(board, mem, address);
     let mut place = walk::start_at(address);
+    // the loop over turns stands here and in `scan::stretch`, which nests it: docs/PROMISES.md, "Named forms"
     loop {
         match walk::turn_at(&view, limit, place) {
             ControlFlow::Break(walked) => return Ok(walked),
@@ -60,7 +61,7 @@ pub fn wait(board: Board, mem: &[u16], address: u16, limit: u16) -> Result<Walke
     }
 }
 
-// The region that the meter is to scan, in either mode, unless it is not let in.
+// The region that the meter is to scan, in either mode, unless it is not let in. (Its parameters are the public calls', and so those of C.)
 fn admit_scan(
     board: Board,
     mem: &[u16],

@@ -84,7 +84,7 @@ pub(crate) fn stretch(
     findings
 }
 
-// The members of a set in a region, a word of the set at a time. A word that has none is passed over.
+// The members of a set in a region, a word of the set at a time, by its number, from which its addresses follow. A word that has none is passed over.
 pub(crate) fn members(board: Board, mem: &[u16], region: Region, clear: &[u64]) -> Findings
     requires { length clear.now ≡ set_length }
     ensures { named_in result ≡ named_of (contains clear.now) (walk_from (read_of (bus_on board mem.now)) region.limit.cycles) region.first region.last }
