@@ -1,5 +1,5 @@
 -- Demand 3 holds.
-use Rattle.std.proofs.Common.{Ok, tt}
+use Rattle.std.proofs.Common.{Ok}
 use Prim.Native.Nat.{ℕ, ◌+◌, ◌-◌}
 use mathlib.Core.Path.{◌≡◌, refl, sym, subst}
 use mathlib.Core.Bool.{Bool, true, false, cond}

@@ -1,5 +1,5 @@
 -- One step of a machine that stands where the walk stands.
-use Rattle.std.proofs.Common.{Option, Some, Ok, tt}
+use Rattle.std.proofs.Common.{Option, Some, Ok}
 use Prim.Native.Nat.{ℕ, ◌+◌}
 use mathlib.Core.Path.{◌≡◌, refl, ap, ap₂, sym, ◌∙◌}
 use mathlib.Core.Bool.{Bool, true, false, not, cond, ◌&&◌, true≢false}
