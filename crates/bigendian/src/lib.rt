@@ -1,4 +1,5 @@
-// Numbers of two bytes each, the high byte first, as files have them.
+// Numbers of two bytes each, the high byte first, as files have them. A place goes beside its bytes, and no part that begins there: the calls
+// answer for places past the end, too.
 #![tactic(auto)]
 
 ghost use Rattle.std.specs.Prelude.{◌≡◌, [], ◌∷◌, min, ◌+◌, ◌-◌, ◌*◌, ◌/◌, ◌%◌, ◌<◌, ◌≤◌, length, get_or, take};
@@ -63,7 +64,7 @@ pub fn put_words(room: &mut [u8], at: usize, words: &[u16]) -> u16
     sum
 }
 
-// The number at a place, read as little-endian. The compiler makes one load of its two bytes, and of `word_at` in a loop two.
+// The number at a place, read as little-endian. Not as from_be_bytes reads it: the compiler makes one load of its two bytes, and of `word_at` in a loop two.
 #[tactic(auto, unfolding(crate::specs::Numbers::word_at))]
 fn little_endian_at(bytes: &[u8], at: usize) -> u16
     requires { at + 1 < length bytes.now }

@@ -1,11 +1,12 @@
 -- The ends of a call, as the functions come to them: what they were told leaves what the call's rule says.
 use Prim.Native.Nat.{ℕ, ◌≤◌, ◌<◌}
 use mathlib.Core.Path.{◌≡◌, refl, ap, sym, subst}
-use mathlib.Core.Bool.{Bool, true, false}
+use mathlib.Core.Bool.{Bool}
 use mathlib.Core.List.{List, [], ◌∷◌}
 use native.Mathlib.Omega.{arith}
 use borrow.Author.Tests.{le-ltb}
 use lib.ListN.{length}
+use Rattle.std.specs.Prelude.{Result, Ok, Err}
 use Rattle.refusal.specs.declared.Refusal.{Refusal}
 use Rattle.refusal.specs.Report.{Report, refused, answered, UnlessRefused}
 use Rattle.memory.specs.declared.map.Board.{Board}
@@ -17,27 +18,21 @@ use Rattle.cpu.specs.Answer.{step_report, cycles_of}
 use Rattle.cpu.specs.Step.{Outcome, step_of, outcome}
 use Rattle.cpu.proofs.ActionLaws.{cycles-most}
 use Rattle.run.specs.declared.Ran.{Ran}
-use Rattle.run.specs.declared.RunAnswer.TheVariants.{Refused as RunRefused}
 use Rattle.run.specs.Run.{run_report, run_outcome, run_of}
-use Rattle.meter.specs.Answer.{Answer}
-use Rattle.meter.specs.Meter.{wait_of}
-use Rattle.listing.specs.declared.Listing.{Listing}
-use Rattle.listing.specs.declared.Listing.TheVariants.{Refused as ListingRefused, Listed}
+use Rattle.records.specs.Loading.{load_reported}
+use Rattle.image.specs.Answer.{write_reported}
+use Rattle.listing.specs.declared.Listed.{Listed}
 use Rattle.listing.specs.Answer.{ListedLine, listing_reported}
 use Rattle.listing.specs.Disassemble.{disassemble_of, disassembly}
-use Rattle.pair.specs.declared.PairAnswer.{PairAnswer}
-use Rattle.pair.specs.declared.PairAnswer.TheVariants.{Refused as PairRefused, Written as PairWritten}
+use Rattle.pair.specs.declared.Lengths.{Lengths}
 use Rattle.pair.specs.Answer.{PairLengths, pair_reported}
 use Rattle.pair.specs.Write.{write_pair_of, wrote_pair}
 use Rattle.cp1610.specs.Words.{state_length, unpacked, packed, lines_of}
-use Rattle.cp1610.specs.MapWords.{is_map}
-use Rattle.cp1610.specs.Answers.{is_refusal, counted_word, answer_word, success_word}
-use Rattle.cp1610.specs.Called.{items, memory, called, by_report, call_by}
-use Rattle.cp1610.specs.Call.{reset_call, stepped_call, step_call}
-use Rattle.cp1610.specs.MeterCall.{walked_word, wait_word, wait_call}
+use Rattle.cp1610.specs.Answers.{counted_word, success_word}
+use Rattle.cp1610.specs.Called.{items, called, call_by}
+use Rattle.cp1610.specs.Call.{reset_call}
 use Rattle.cp1610.specs.ImageCall.{counted_call}
-use Rattle.cp1610.proofs.AnswerLaws.{success-high, no-refusal}
-use Rattle.cp1610.proofs.RuleLaws.{Told, kept_by, held_by, by-told}
+use Rattle.cp1610.proofs.RuleLaws.{Told, kept_by, held_by}
 use Rattle.cp1610.proofs.ReportLaws.{
   ToldStep,
   told-step,
@@ -63,85 +58,42 @@ pub step-cycles-low : (board : Board) (x : Stepped) (n : List ℕ) (m : Machine)
     cycles_of (step_report x.answer) < 0x100000000
 step-cycles-low board x n m b l e = omega (arith, ap (λ (o : Outcome). cycles_of o.answer) e, cycles-most m b l)
 
--- a step, by whether its result is a refusal's
-module _ (words map : List ℕ) (b : Bus) (lines : ℕ) (o : Outcome) (result : ℕ)
-    (long : state_length ≤ length words)
-    (whole : is_map map ≡ true)
-    (steps : o ≡ step_of (unpacked words) b (lines_of lines))
-    (word : result ≡ answer_word o.answer) where
-  told : ToldStep (unpacked words) b o o.answer
-  unfolding unpacked
-  told = rw steps (told-step (unpacked words) b (lines_of lines) refl)
-
-  pub step-refused : is_refusal result ≡ true →
-      called result (items words ∷ memory o.bus ∷ []) ≡ call_by (step_call words map b lines)
-  unfolding step_call
-  step-refused low =
-      rw (← steps)
-      (by-told _ _ (stepped_call words map b o)
-      (λ r c. result ≡ answer_word r → called result (items words ∷ memory o.bus ∷ []) ≡ c)
-      (rw (le-ltb (length words) state_length long, whole)) told
-      (λ n h k e. rw (e, k.1))
-      (λ x k e. no-refusal result (rw e (success-high x.kind x.cycles k.0)) low)
-      word)
-
-  pub step-answered : is_refusal result ≡ false →
-      called result (items (packed words o.machine) ∷ memory o.bus ∷ []) ≡ call_by (step_call words map b lines)
-  unfolding step_call
-  step-answered high =
-      rw (← steps)
-      (by-told _ _ (stepped_call words map b o)
-      (λ r c. result ≡ answer_word r → called result (items (packed words o.machine) ∷ memory o.bus ∷ []) ≡ c)
-      (rw (le-ltb (length words) state_length long, whole)) told
-      (λ n h k e. no-refusal result high (rw e h))
-      (λ x k e. rw e)
-      word)
+-- a refused step left the memory
+pub step-kept : (words : List ℕ) (b : Bus) (lines : ℕ) (board : Board) (x : Stepped) (after : List ℕ) (r : Refusal) →
+    outcome board x after ≡ step_of (unpacked words) b (lines_of lines) →
+    x.answer ≡ Err r →
+    bus_on board after ≡ b
+unfolding unpacked
+step-kept words b lines board x after r e p =
+    let told = told-step (unpacked words) b (lines_of lines) refl in
+    (kept_by _ _ (step_report x.answer) (subst (λ (o : Outcome). ToldStep (unpacked words) b o o.answer) (sym e) told) (ap step_report p)).1
 
 -- a refused run left the memory
 pub run-kept : (words : List ℕ) (b : Bus) (lines budget : ℕ) (board : Board) (x : Ran) (after : List ℕ) (r : Refusal) →
     run_outcome board x after ≡ run_of (unpacked words) b (lines_of lines) budget →
-    x.answer ≡ RunRefused r →
+    x.answer ≡ Err r →
     bus_on board after ≡ b
 unfolding unpacked
 run-kept words b lines budget board x after r e p =
     let told = told-run (unpacked words) b (lines_of lines) budget refl in
     (kept_by _ _ (run_report x.answer) (subst (ToldRun (unpacked words) b) (sym e) told) (ap run_report p)).1
 
--- the meter's word is the whole result
-pub wait-ends : (map : List ℕ) (b : Bus) (address limit : ℕ) →
-    is_map map ≡ true →
-    called (wait_word (wait_of b address limit)) [] ≡ call_by (wait_call map b address limit)
-unfolding wait_call
-wait-ends map b address limit whole = rw whole (go (wait_of b address limit))
-  where
-    go : (r : Report Answer) → called (wait_word r) [] ≡ by_report [] (λ (a : Answer). called (walked_word a) []) r
-    go (refused n) = refl
-    go (answered a) = refl
-
 -- a refused listing left the room, and a line's text is short
-module _ (b : Bus) (at : ℕ) (double : Bool) (room after : List ℕ) (x : Listing)
+module _ (b : Bus) (at : ℕ) (double : Bool) (room after : List ℕ) (x : Result Listed Refusal)
     (e : disassembly x after ≡ disassemble_of b at double room) where
   listing-told : ToldListing room (disassembly x after)
   listing-told = subst (ToldListing room) (sym e) (told-listing b at double room)
 
-  pub listing-kept : {r : Refusal} → x ≡ ListingRefused r → after ≡ room
+  pub listing-kept : {r : Refusal} → x ≡ Err r → after ≡ room
   listing-kept p = kept_by (after ≡ room) (λ (l : ListedLine). l.length ≤ 14) (listing_reported x) listing-told (ap listing_reported p)
 
-  pub listing-short : {size words : ℕ} {next : Bool} → x ≡ Listed size words next → size ≤ 14
+  pub listing-short : {l : Listed} → x ≡ Ok l → l.length ≤ 14
   listing-short p = held_by (after ≡ room) (λ (l : ListedLine). l.length ≤ 14) (listing_reported x) listing-told (ap listing_reported p)
 
--- a call that answers a count, by what was reported: a refusal left what was lent, and the count is no more than the most
-module _ (before after : List ℕ) (most : ℕ) (report : Report ℕ) (told : Told (after ≡ before) (λ n. n ≤ most) report) where
-  pub count_most : {n : ℕ} → report ≡ answered n → n ≤ most
-  count_most = held_by (after ≡ before) (λ n. n ≤ most) report told
-
-  pub count-refused : {n : ℕ} → report ≡ refused n → called n (items after ∷ []) ≡ call_by (counted_call before report after)
-  count-refused p = rw (p, kept_by (after ≡ before) (λ n. n ≤ most) report told p)
-
-pub count-answered : (before after : List ℕ) (report : Report ℕ) {n : ℕ} →
-    report ≡ answered n →
-    called (success_word 1 n) (items after ∷ []) ≡ call_by (counted_call before report after)
-count-answered before after report p = rw p
+-- a writer reports its count as a loader does
+pub counts-alike : (r : Result ℕ Refusal) → load_reported r ≡ write_reported r
+counts-alike (Ok n) = refl
+counts-alike (Err r) = refl
 
 -- a loader's word is the whole result, and its count has room there
 module _ (before after : List ℕ) (most : ℕ) (report : Report ℕ) (told : Told (after ≡ before) (λ n. n ≤ most) report) where
@@ -160,12 +112,12 @@ module _ (before after : List ℕ) (most : ℕ) (report : Report ℕ) (told : To
       go (answered n) t = omega arith
 
 -- a refused writing of a pair left both rooms, and the lengths of another fit `out`
-module _ (m : List ℕ) (first last : ℕ) (bin cfg b c : List ℕ) (x : PairAnswer) (e : wrote_pair x b c ≡ write_pair_of m first last bin cfg) where
+module _ (m : List ℕ) (first last : ℕ) (bin cfg b c : List ℕ) (x : Result Lengths Refusal) (e : wrote_pair x b c ≡ write_pair_of m first last bin cfg) where
   pair-told : ToldPair bin cfg (wrote_pair x b c)
   pair-told = subst (ToldPair bin cfg) (sym e) (told-pair-writing m first last bin cfg)
 
-  pub pair-kept : {r : Refusal} → x ≡ PairRefused r → (b ≡ bin) × (c ≡ cfg)
+  pub pair-kept : {r : Refusal} → x ≡ Err r → (b ≡ bin) × (c ≡ cfg)
   pair-kept p = kept_by ((b ≡ bin) × (c ≡ cfg)) (λ (n : PairLengths). (n.bin < 0x100000000) × (n.cfg < 0x100000000)) (pair_reported x) pair-told (ap pair_reported p)
 
-  pub pair_fits : {file text : ℕ} → x ≡ PairWritten file text → (file < 0x100000000) × (text < 0x100000000)
+  pub pair_fits : {n : Lengths} → x ≡ Ok n → (n.bin < 0x100000000) × (n.cfg < 0x100000000)
   pair_fits p = held_by ((b ≡ bin) × (c ≡ cfg)) (λ (n : PairLengths). (n.bin < 0x100000000) × (n.cfg < 0x100000000)) (pair_reported x) pair-told (ap pair_reported p)

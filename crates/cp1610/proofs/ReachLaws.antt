@@ -10,10 +10,9 @@ use Rattle.refusal.specs.Report.{Report, refused, answered}
 use Rattle.refusal.proofs.ReportLaws.{no_answer}
 use Rattle.memory.specs.declared.map.Board.{Board}
 use Rattle.memory.specs.Bus.{Bus, bus_on, read_of}
-use Rattle.bitset.specs.declared.Lowest.{Lowest}
+use Rattle.std.specs.Prelude.{Result, Ok, Err}
 use Rattle.bitset.specs.Bits.{lowest_or_none}
-use Rattle.reach.specs.declared.ReachAnswer.{ReachAnswer}
-use Rattle.reach.specs.declared.ReachAnswer.TheVariants.{Refused, Built}
+use Rattle.reach.specs.declared.Summary.{Summary}
 use Rattle.reach.specs.Ways.{successors}
 use Rattle.reach.specs.Summary.{SetSummary}
 use Rattle.reach.specs.Answer.{reach_report}
@@ -67,21 +66,21 @@ unfolding reach_call
 reach-short map b entries clear set out h = (rw h, λ q. absurd (true≢false q))
 
 -- one that is let through: on the map's board, by the answer of building the set
-module _ (map mem entries clear set out : List ℕ) (board : Board) (r : ReachAnswer) {c s : List ℕ} (e : board ≡ board_of map)
+module _ (map mem entries clear set out : List ℕ) (board : Board) (r : Result Summary Refusal) {c s : List ℕ} (e : board ≡ board_of map)
     (long : (reach_call map (on_map map mem) entries clear set out c s).short ≡ false) (k : Reaches (bus_on board mem) entries clear set c s (reach_report r)) where
   built : Reaches (on_map map mem) entries clear set c s (reach_report r)
   built = rw (← e) k
 
-  pub reach-refuses : {x : Refusal} {n : ℕ} → r ≡ Refused x → n ≡ refusal_number x → Ends map (on_map map mem) entries clear set out c s n out
+  pub reach-refuses : {x : Refusal} {n : ℕ} → r ≡ Err x → n ≡ refusal_number x → Ends map (on_map map mem) entries clear set out c s n out
   unfolding reach_call
   reach-refuses {x} p q =
       let f : reach_of (on_map map mem) entries clear set c s ≡ refused (refusal_number x) = sym built.answer ∙ ap reach_report p in
-      let u : Unmoved clear set c s = subst (λ (a : ReachAnswer). LeavesSet (on_map map mem) entries clear set c s (reach_report a)) p built.left in
+      let u : Unmoved clear set c s = subst (λ (a : Result Summary Refusal). LeavesSet (on_map map mem) entries clear set c s (reach_report a)) p built.left in
       (rw (long, f, q, u.clear_is, u.set_is), λ i. no-refusal (refusal_number x) (rw (← q) i) (number-low x))
 
-  pub reach-builds : {n m : ℕ} {l : Lowest} {result : ℕ} {out' : List ℕ} → r ≡ Built n m l → result ≡ success_word 1 0 →
-      out' ≡ reach_words out (record { addresses = n; writers = m; lowest_writer = lowest_or_none l }) → Ends map (on_map map mem) entries clear set out c s result out'
+  pub reach-builds : {n : Summary} {result : ℕ} {out' : List ℕ} → r ≡ Ok n → result ≡ success_word 1 0 →
+      out' ≡ reach_words out (record { addresses = n.addresses; writers = n.writers; lowest_writer = lowest_or_none n.lowest }) → Ends map (on_map map mem) entries clear set out c s result out'
   unfolding reach_call
   reach-builds p q o =
       let f = sym built.answer ∙ ap reach_report p in
-      (rw (long, f, q, o), λ i. subst (λ (a : ReachAnswer). LeavesSet (on_map map mem) entries clear set c s (reach_report a)) p built.left)
+      (rw (long, f, q, o), λ i. subst (λ (a : Result Summary Refusal). LeavesSet (on_map map mem) entries clear set c s (reach_report a)) p built.left)

@@ -19,8 +19,8 @@ use Rattle.word.proofs.WordLaws.{add_low}
 use Rattle.word.proofs.Choice.{cond_both, cond_either}
 use Rattle.memory.specs.Bus.{Bus, bus_of, read_of, admission_of}
 use Rattle.memory.proofs.BusLaws.{unless-both}
-use Rattle.decode.specs.declared.Decoded.{Decoded}
-use Rattle.decode.specs.declared.Decoded.TheVariants.{Unspecified, Known}
+use Rattle.std.specs.Prelude.{Option, Some, None}
+use Rattle.decode.specs.declared.Instr.{Instr}
 use Rattle.decode.specs.Fields.{opcode_of}
 use Rattle.decode.specs.Decode.{decode_at}
 use Rattle.decode.specs.Rows.{row_of}
@@ -135,9 +135,9 @@ walk-fits (suc n) read limit p low here =
     Comes : Turn → Type 0
     Comes t = Fits (after_turn (λ a. a) (walk_by n read limit) t)
 
-    go : ((q : Place) → q.address < 65536 → Comes (goes_on q)) → (x : Decoded) → Comes (decoded_turn limit p x)
-    go on Unspecified = omega arith
-    go on (Known i) =
+    go : ((q : Place) → q.address < 65536 → Comes (goes_on q)) → (x : Option Instr) → Comes (decoded_turn limit p x)
+    go on None = omega arith
+    go on (Some i) =
         let row = row_of i p.double in
         cond_either Comes (ltb limit (p.sum + row.cycles)) (λ e. tt)
         (λ e.

@@ -23,12 +23,6 @@ ghost use Rattle.cp1610.specs.Calls.{
 };
 ghost use Rattle.cp1610.specs.ReachCall.{HoldsSet};
 
-use image::WriteAnswer;
-use listing::Listing;
-use pair::PairAnswer;
-use reach::ReachAnswer;
-use run::RunAnswer;
-
 mod answers;
 mod listing_words;
 mod map_words;
@@ -58,21 +52,17 @@ pub extern "C" fn cp1610_step(state: &mut [u16], mem: &mut [u16], map: &[u16], l
     if state.len() < words::STATE_LENGTH {
         return answers::SHORT_BUFFER;
     }
-    let read = map_words::read_map(map);
-    if !read.whole {
+    let Some(board) = map_words::read_map(map) else {
         return answers::SHORT_BUFFER;
-    }
-    let board = read.board;
+    };
     let stepped = run::one_step(words::unpack(state), board, mem, words::lines_of(lines));
-    let answer = stepped.answer;
-    let result = answers::step_word(answer);
-    let refused = answers::is_refusal(result);
-    if refused {
-        return result;
+    match stepped.answer {
+        Ok(done) => {
+            words::pack(state, stepped.state);
+            answers::step_word(done)
+        }
+        Err(refusal) => answers::refused(refusal),
     }
-    let after = stepped.state;
-    words::pack(state, after);
-    result
 }
 
 // Steps within a budget of cycles. The state's words and `out` are written only once it is known that the run was not refused.
@@ -94,11 +84,9 @@ pub extern "C" fn cp1610_run(
     if out.len() < answers::RUN_LENGTH {
         return answers::SHORT_BUFFER;
     }
-    let read = map_words::read_map(map);
-    if !read.whole {
+    let Some(board) = map_words::read_map(map) else {
         return answers::SHORT_BUFFER;
-    }
-    let board = read.board;
+    };
     let ran = run::run(
         words::unpack(state),
         board,
@@ -106,19 +94,13 @@ pub extern "C" fn cp1610_run(
         words::lines_of(lines),
         budget,
     );
-    let answer = ran.answer;
-    match answer {
-        RunAnswer::Refused(refusal) => refusal::number(refusal) as u64,
-        RunAnswer::Ended {
-            steps,
-            cycles,
-            cause,
-        } => {
-            let after = ran.state;
-            words::pack(state, after);
-            answers::put_run(out, steps, cycles, cause);
+    match ran.answer {
+        Ok(ended) => {
+            words::pack(state, ran.state);
+            words::put(out, answers::run_words(ended));
             answers::success(answers::DONE, 0)
         }
+        Err(refusal) => answers::refused(refusal),
     }
 }
 
@@ -127,12 +109,13 @@ pub extern "C" fn cp1610_run(
 pub extern "C" fn cp1610_wait(mem: &[u16], map: &[u16], address: u16, limit: u16) -> u64
     ensures { called result [] ≡ call_of (cp1610_wait mem.now map.now address limit) }
 {
-    let read = map_words::read_map(map);
-    if !read.whole {
+    let Some(board) = map_words::read_map(map) else {
         return answers::SHORT_BUFFER;
+    };
+    match meter::wait(board, mem, address, limit) {
+        Ok(walked) => meter_words::walked_word(walked),
+        Err(refusal) => answers::refused(refusal),
     }
-    let board = read.board;
-    meter_words::wait_word(meter::wait(board, mem, address, limit))
 }
 
 // The wait meter for a region. `out` is written only once it is known that the region was not refused.
@@ -151,11 +134,9 @@ pub extern "C" fn cp1610_region(
     if out.len() < meter_words::REGION_LENGTH {
         return answers::SHORT_BUFFER;
     }
-    let read = map_words::read_map(map);
-    if !read.whole {
+    let Some(board) = map_words::read_map(map) else {
         return answers::SHORT_BUFFER;
-    }
-    let board = read.board;
+    };
     meter_words::region_word(out, meter::region(board, mem, first, last, limit))
 }
 
@@ -175,22 +156,23 @@ pub extern "C" fn cp1610_list(
     if out.len() < listing_words::LIST_LENGTH {
         return answers::SHORT_BUFFER;
     }
-    let read = map_words::read_map(map);
-    if !read.whole {
+    let Some(board) = map_words::read_map(map) else {
         return answers::SHORT_BUFFER;
-    }
-    let board = read.board;
+    };
     let answer = listing::disassemble(board, mem, address, d != 0, text);
     match answer {
-        Listing::Refused(refusal) => refusal::number(refusal) as u64,
-        Listing::Listed {
-            length,
-            words,
-            double,
-        } => {
-            listing_words::put_listing(out, length as u32, words, double);
+        Ok(listed) => {
+            words::put(
+                out,
+                [
+                    listed.length as u32,
+                    listed.words as u32,
+                    listed.double as u32,
+                ],
+            );
             answers::success(answers::DONE, 0)
         }
+        Err(refusal) => answers::refused(refusal),
     }
 }
 
@@ -203,7 +185,10 @@ pub extern "C" fn cp1610_assemble(line: &[u8], d: u8, words: &mut [u16]) -> u64
     if words.len() < listing_words::LINE_WORDS {
         return answers::SHORT_BUFFER;
     }
-    listing_words::put_assembly(words, listing::assemble(line, d != 0))
+    match listing::assemble(line, d != 0) {
+        Ok(assembly) => listing_words::put_assembly(words, assembly),
+        Err(refusal) => answers::refused(refusal),
+    }
 }
 
 // Loads an image file.
@@ -212,7 +197,7 @@ pub extern "C" fn cp1610_load(board: u16, mem: &mut [u16], file: &[u8]) -> u64
     ensures { called result (items mem.new ∷ [])
         ≡ call_of (cp1610_load board mem.old file.now) }
 {
-    answers::load_word(image::load(board, mem, file))
+    answers::count_word(image::load(board, mem, file))
 }
 
 // Writes an image file.
@@ -227,11 +212,7 @@ pub extern "C" fn cp1610_write(
     ensures { called result (items room.new ∷ [])
         ≡ call_of (cp1610_write board mem.now first last room.old) }
 {
-    let answer = image::write(board, mem, first, last, room);
-    match answer {
-        WriteAnswer::Refused(refusal) => refusal::number(refusal) as u64,
-        WriteAnswer::Written(bytes) => answers::counted(bytes),
-    }
+    answers::count_word(image::write(board, mem, first, last, room))
 }
 
 // Reads a pair of a flat file and a mapping text.
@@ -240,7 +221,7 @@ pub extern "C" fn cp1610_load_pair(mem: &mut [u16], bin: &[u8], cfg: &[u8]) -> u
     ensures { called result (items mem.new ∷ [])
         ≡ call_of (cp1610_load_pair mem.old bin.now cfg.now) }
 {
-    answers::load_word(pair::load_pair(mem, bin, cfg))
+    answers::count_word(pair::load_pair(mem, bin, cfg))
 }
 
 // Writes a pair. `out` is written only once it is known that the writing was not refused.
@@ -259,16 +240,12 @@ pub extern "C" fn cp1610_write_pair(
     if out.len() < answers::PAIR_LENGTH {
         return answers::SHORT_BUFFER;
     }
-    let answer = pair::write_pair(mem, first, last, bin, cfg);
-    match answer {
-        PairAnswer::Refused(refusal) => refusal::number(refusal) as u64,
-        PairAnswer::Written {
-            bin: file,
-            cfg: text,
-        } => {
-            answers::put_lengths(out, file as u32, text as u32);
+    match pair::write_pair(mem, first, last, bin, cfg) {
+        Ok(lengths) => {
+            words::put(out, [lengths.bin as u32, lengths.cfg as u32]);
             answers::success(answers::DONE, 0)
         }
+        Err(refusal) => answers::refused(refusal),
     }
 }
 
@@ -289,22 +266,15 @@ pub extern "C" fn cp1610_reach(
     if out.len() < reach_words::REACH_LENGTH {
         return answers::SHORT_BUFFER;
     }
-    let read = map_words::read_map(map);
-    if !read.whole {
+    let Some(board) = map_words::read_map(map) else {
         return answers::SHORT_BUFFER;
-    }
-    let board = read.board;
-    let answer = reach::reach(board, mem, entries, clear, set);
-    match answer {
-        ReachAnswer::Refused(refusal) => refusal::number(refusal) as u64,
-        ReachAnswer::Built {
-            addresses,
-            writers,
-            lowest,
-        } => {
-            reach_words::put_summary(out, addresses, writers, lowest);
+    };
+    match reach::reach(board, mem, entries, clear, set) {
+        Ok(summary) => {
+            words::put(out, reach_words::summary_words(summary));
             answers::success(answers::DONE, 0)
         }
+        Err(refusal) => answers::refused(refusal),
     }
 }
 
@@ -326,11 +296,9 @@ pub extern "C" fn cp1610_region_reached(
     if out.len() < meter_words::REGION_LENGTH {
         return answers::SHORT_BUFFER;
     }
-    let read = map_words::read_map(map);
-    if !read.whole {
+    let Some(board) = map_words::read_map(map) else {
         return answers::SHORT_BUFFER;
-    }
-    let board = read.board;
+    };
     meter_words::region_word(
         out,
         meter::region_reached(board, mem, first, last, limit, clear, set),

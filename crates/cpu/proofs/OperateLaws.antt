@@ -5,8 +5,9 @@ use mathlib.Core.Path.{◌≡◌, refl, ap, ap₂, sym, subst, ◌∙◌}
 use mathlib.Core.Bool.{Bool, true, false}
 use mathlib.Core.List.{List, map}
 use native.Mathlib.Omega.{arith}
-use lib.Dec.{lit≤, lit<}
+use lib.Dec.{eqb, lit≤, lit<}
 use lib.ListN.{get_or}
+use Rattle.word.proofs.Choice.{cond-false}
 use Rattle.word.specs.declared.Flagged.{Flagged}
 use Rattle.word.specs.Word.{wrap_add}
 use Rattle.word.specs.Flags.{set_sz, compare_of}
@@ -23,7 +24,7 @@ use Rattle.cpu.specs.Operate.{movr, mvi, add, sub, cmp, and, xor, register_row, 
 use Rattle.cpu.specs.Modes.{Fetch, fetch_of}
 use Rattle.cpu.specs.Inner.Parts.{flags_in}
 use Rattle.cpu.specs.Inner.Change.{no_register, with_pointer, changed, status_after, writes_to, begun_at, effect_at, cycles_at, Leaves}
-use Rattle.cpu.specs.Inner.Operate.{pair_at, rising_fetched, through_fetched, fetched_of, destination_of, register_result, fetched_result}
+use Rattle.cpu.specs.Inner.Operate.{pair_at, rising_fetched, through_fetched, fetched_of, destination_of, operated, register_result, fetched_result}
 use Rattle.cpu.proofs.RowAnswers.{own_is, result_own, on-is, writes-leave}
 
 -- the next word but one
@@ -49,11 +50,11 @@ module _ (d y : ℕ) (m : Machine) (own : with_register d (register d m) m.regis
   compare-is = sym (result_own d (compare_of (register d m) y) m own refl)
 
   register-row-is : (row : ℕ) → 2 ≤ row → row < 8 → register_row (row - 2) y d m ≡ result d (register_result row taken y) m
-  unfolding register_result movr add sub and xor set_sz
+  unfolding register_result operated movr add sub and xor set_sz
   register-row-is = by-six 2 (λ row. register_row (row - 2) y d m ≡ result d (register_result row taken y) m) refl refl refl compare-is refl refl
 
   read-row-is : (row : ℕ) → 10 ≤ row → row < 16 → read_row (row - 10) y d m ≡ result d (fetched_result row taken y) m
-  unfolding fetched_result mvi add sub and xor set_sz result
+  unfolding fetched_result operated mvi add sub and xor set_sz result
   read-row-is = by-six 10 (λ row. read_row (row - 10) y d m ≡ result d (fetched_result row taken y) m) refl refl refl compare-is refl refl
 
 -- which of the fetches it is
@@ -119,6 +120,13 @@ module _ (pc : ℕ) (r : List ℕ) (k : Status) where
   movr-leaves on row s d e hs hd =
       subst (λ n. Operates n s d (writes_to k (operate_entry 2 d) pc d (set_sz (get_or r s 0) (beside (get_or r d 0) (flags_in k))))) (sym e)
       (register-leaves on 2 s d (lit≤ tt) (lit< tt) hs hd)
+
+  -- .. and the others what is operated
+  pub others-leave : get_or r 7 0 ≡ wrap_add pc 1 → (row s d : ℕ) → eqb row 2 ≡ false → 2 ≤ row → row < 8 → s < 8 → d < 8 →
+      Operates row s d (writes_to k (operate_entry row d) pc d (operated row (beside (get_or r d 0) (flags_in k)) (get_or r s 0)))
+  unfolding register_result
+  others-leave on row s d z l h hs hd =
+      subst (λ f. Operates row s d (writes_to k (operate_entry row d) pc d f)) (cond-false _ _ z) (register-leaves on row s d l h hs hd)
 
   -- the change that the code makes of an operand
   abbrev pub read_change : ℕ → ℕ → Fetched → Change

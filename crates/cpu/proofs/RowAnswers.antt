@@ -24,7 +24,7 @@ use Rattle.cpu.specs.Single.{incr, decr, comr, negr, adcr, gswd, rswd, single, s
 use Rattle.cpu.specs.Branch.{is_taken, branch}
 use Rattle.cpu.specs.Inner.Parts.{flags_in}
 use Rattle.cpu.specs.Inner.Change.{no_register, changed, status_after, writes_to, goes_to, begun_at, effect_at, cycles_at, Leaves}
-use Rattle.cpu.specs.Inner.Control.{carry_after, enable_after, return_register}
+use Rattle.cpu.specs.Inner.Control.{switched, return_register}
 use Rattle.cpu.specs.Inner.Single.{single_result}
 use Rattle.cpu.proofs.RowMarks.{shift-plain}
 use Rattle.cpu.proofs.RegisterLaws.{other-register}
@@ -60,7 +60,7 @@ control_change k pc d =
       moved = 0;
       next = wrap_add pc (control_entry d).words;
       cycles = (control_entry d).cycles;
-      status = status_after k (control_entry d) (record { value = 0; s = k.s; z = k.z; o = k.o; c = carry_after d k.c }) (enable_after d k.i);
+      status = status_after k (control_entry d) (record { value = 0; s = k.s; z = k.z; o = k.o; c = switched d 7 6 k.c }) (switched d 2 3 k.i);
     }
 
 abbrev jump_change : Status → ℕ → ℕ → ℕ → Bool → Change
@@ -90,7 +90,7 @@ module _ (k : Status) (pc : ℕ) (r : List ℕ) (read : ℕ → ℕ) (external :
   halt-leaves = record { machine = refl; costs = refl }
 
   pub control-leaves : (d : ℕ) → d < 8 → Makes (Control d) (control_change k pc d)
-  unfolding control_entry carry_after enable_after
+  unfolding control_entry switched
   control-leaves d h =
       record {
         machine = by-eight (λ d. changed (control_change k pc d) r ≡ (effect_at (Control d) pc r k read external).machine) refl refl refl refl refl refl refl refl d h;

@@ -1,8 +1,8 @@
 -- What a step reports: "The answer names 3, 4 or 5 and the cycles", or the refusal's number.
-use Rattle.std.specs.Prelude.{ℕ, Bool, false, eqb, Result, Ok, Err}
+use Rattle.std.specs.Prelude.{ℕ, Bool, false, eqb, Result}
 use Rattle.refusal.specs.declared.Refusal.{Refusal}
 use Rattle.refusal.specs.declared.Refusal.TheVariants.{Unspecified}
-use Rattle.refusal.specs.Refusals.{refusal_number}
+use Rattle.refusal.specs.Refusals.{refusal_number, reported}
 use Rattle.refusal.specs.Report.{Report, refused, answered, OneToOne}
 use Rattle.cpu.specs.declared.Kind.{Kind}
 use Rattle.cpu.specs.declared.Kind.TheVariants.{Granted, Interrupted, Executed}
@@ -22,8 +22,7 @@ kind_number Interrupted = 4
 kind_number Executed = 5
 
 abbrev pub step_report : Result Done Refusal → Report StepDone
-step_report (Err r) = refused (refusal_number r)
-step_report (Ok d) = done (kind_number d.kind) d.cycles
+step_report answer = reported (λ d. record { kind = kind_number d.kind; cycles = d.cycles }) answer
 
 -- no two answers are reported alike
 abbrev pub StepsApart : Type 0

@@ -3,8 +3,8 @@
 
 ghost use Rattle.std.specs.Prelude.{◌≡◌, false, get_or};
 ghost use Rattle.refusal.specs.Report.{is_refused};
-ghost use Rattle.memory.specs.Bus.{bus_on, read_of};
-ghost use Rattle.memory.specs.Near.{in_front, near_of};
+ghost use Rattle.memory.specs.Bus.{bus_on};
+ghost use Rattle.memory.specs.Near.{in_front, near_of, reads};
 ghost use Rattle.decode.specs.Decode.{decode_at};
 ghost use Rattle.cpu.specs.Machine.{machine_of, reset_machine};
 ghost use Rattle.cpu.specs.Answer.{step_report, cycles_of, meets_unspecified};
@@ -13,6 +13,7 @@ ghost use Rattle.cpu.specs.Inner.Parts.{machine_in, is_unspecified_form, stepped
 
 use memory::map::{Board, Range};
 use memory::near;
+use memory::near::View;
 use refusal::Refusal;
 
 mod branch;
@@ -106,6 +107,7 @@ const GRANT: Done = Done {
     cycles: 1,
 };
 
+#[tactic(auto, unfolding(crate::specs::Machine::reset_machine))]
 pub fn reset() -> State
     ensures { machine_of result ≡ reset_machine }
 {
@@ -157,11 +159,20 @@ fn instruction(
     ensures near { result.near ≡ near_of board given (get_or registers 7 0) }
 {
     let pc = registers[7];
-    let fetched = near::fetch(board, given, mem, pc);
+    let here = View {
+        board,
+        near: given,
+        words: mem,
+    };
+    let fetched = here.fetch(pc);
     let near = fetched.near;
-    let first = fetched.word;
-    let read = decode::instruction(first % 1024);
-    let Some(instr) = decode::specified_at(board, near, mem, pc, read, status.d) else {
+    let view = View {
+        board,
+        near,
+        words: mem,
+    };
+    let read = decode::instruction(fetched.word % 1024);
+    let Some(instr) = decode::specified_at(&view, pc, read, status.d) else {
         return finished(registers, before, Err(Refusal::Unspecified), near);
     };
     let seen = registers::put_next(registers, word::wrapping_add(pc, 1));
@@ -223,10 +234,10 @@ pub fn cycles(answer: Result<Done, Refusal>) -> u64
 }
 
 // Whether an unspecified form stands at an address.
-fn is_unspecified_at(board: Board, near: Range, mem: &[u16], at: u16, double: bool) -> bool
-    ensures { result ≡ is_unspecified_form (decode_at (read_of (bus_on (in_front near board) mem.now)) at double) }
+fn is_unspecified_at(view: &View, at: u16, double: bool) -> bool
+    ensures { result ≡ is_unspecified_form (decode_at (reads view.now) at double) }
 {
-    decode::decode_at(board, near, mem, at, double).is_none()
+    decode::decode_at(view, at, double).is_none()
 }
 
 // Whether a step from here would be refused for an unspecified form. Nothing is changed: a run looks so at the step that it does
@@ -242,7 +253,10 @@ pub fn is_unspecified_next(state: State, board: Board, mem: &[u16], lines: Lines
         Plan::Halting => false,
         Plan::Granting => false,
         Plan::Interrupting => false,
-        Plan::Executing => is_unspecified_at(board, near::no_range(), mem, registers[7], status.d),
+        Plan::Executing => {
+            let pc = registers[7];
+            is_unspecified_at(&View::at(board, mem, pc), pc, status.d)
+        }
     }
 }
 

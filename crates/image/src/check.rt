@@ -25,7 +25,8 @@ fn sum_record(bytes: &[u8]) -> u16
     bigendian::sum_words(&bytes[format::ADDRESS_AT..])
 }
 
-// `body` is the file after its head, and `len` the length of the memory that it is for. Answers the first offence in file order.
+// `body` is the file after its head, and `len` the length of the memory that it is for. Answers the first offence in file order. The second
+// pass has a loop of its own, as this one has to tell why the records end: a walk that both hand a closure would be longer than the two.
 pub(crate) fn check_records(body: &[u8], len: usize) -> Result<Checked, Refusal>
     ensures { result ≡ summary 0 0 (body_of record_limit len body.now) }
 {

@@ -1,7 +1,5 @@
 -- No two answers are reported alike.
-use Prim.Native.Nat.{ℕ}
-use mathlib.Core.Path.{◌≡◌, ap, sym}
-use native.Mathlib.Omega.{arith}
+use mathlib.Core.Path.{ap, sym}
 use Rattle.std.specs.Prelude.{Ok, Err}
 use Rattle.refusal.specs.Report.{OneToOne}
 use Rattle.refusal.proofs.ReportLaws.{no_answer, same_answer, same-refusal}
@@ -15,19 +13,15 @@ listings (Ok x) (Err b) e = no_answer (sym e)
 listings (Ok x) (Ok y) e =
     ap (λ (l : ListedLine). Ok (record { length = l.length; words = l.words; double = l.double })) (same_answer e)
 
--- two lists of words that differ in length
-unlike : {A : Type 0} → ◌≡◌ {A = ℕ} 0 1 → A
-unlike z = absurd (omega arith)
-
 words-apart : OneToOne words_in
 words-apart (One w) (One v) e = cc
-words-apart (One w) (Two v x) e = unlike (cc)
-words-apart (One w) (Three v x y) e = unlike (cc)
-words-apart (Two w a) (One v) e = unlike (cc)
+words-apart (One w) (Two v x) e = cc
+words-apart (One w) (Three v x y) e = cc
+words-apart (Two w a) (One v) e = cc
 words-apart (Two w a) (Two v x) e = cc
-words-apart (Two w a) (Three v x y) e = unlike (cc)
-words-apart (Three w a b) (One v) e = unlike (cc)
-words-apart (Three w a b) (Two v x) e = unlike (cc)
+words-apart (Two w a) (Three v x y) e = cc
+words-apart (Three w a b) (One v) e = cc
+words-apart (Three w a b) (Two v x) e = cc
 words-apart (Three w a b) (Three v x y) e = cc
 
 assemblies : OneToOne assembly_reported

@@ -1,6 +1,6 @@
 -- The entry at an address: its row is in the table, and it is that of three words.
 use Rattle.std.proofs.Common.{Option, None, Some}
-use Prim.Native.Nat.{ℕ, zero, suc, ◌+◌, ◌*◌, ◌/◌, ◌%◌, ◌<◌, ◌≤◌}
+use Prim.Native.Nat.{ℕ, zero, suc, ◌+◌, ◌/◌, ◌%◌, ◌<◌, ◌≤◌}
 use mathlib.Core.Path.{◌≡◌, refl, ap, ◌∙◌}
 use mathlib.Core.Bool.{Bool, true, false, cond}
 use mathlib.Core.List.{[], ◌∷◌}
@@ -21,7 +21,7 @@ use Rattle.listing.specs.declared.line.Line.{Line}
 use Rattle.listing.specs.Line.{line_operand}
 use Rattle.listing.specs.Disassemble.{entry_of, entry_at}
 use Rattle.listing.specs.Inner.Line.{line_with}
-use Rattle.listing.specs.Inner.Entry.{jump_line_by, jump_line, control_line, single_line, shift_line, branch_sign, branch_line, memory_line, register_line, row_line_of, row_entry_for, row_entry_of, row_entry_at}
+use Rattle.listing.specs.Inner.Entry.{jump_line_by, jump_line, control_line, single_line, shift_line, branch_line, memory_line, register_line, row_line_of, row_entry_for, row_entry_of, row_entry_at}
 
 -- the return register by its two bits
 return-is : (n : ℕ) → n < 4 → get_or (return_in 4 ∷ return_in 5 ∷ return_in 6 ∷ []) n no_return ≡ cond (eqb n 3) no_return (return_in (n + 4))
@@ -45,15 +45,6 @@ unfolding jump_line
 jump-line a b =
     ap (λ (r : Return). jump_line_by r (jump_bits a) (jump_target a b)) (return_of-is a)
     ∙ jump-by (eqb (a / 256 % 4) 3) (a / 256 % 4 + 4) (jump_bits a) (jump_target a b)
-
--- the field s of a branch by its bit 5
-pub branch-sign : (b : ℕ) → b / 32 % 2 * 4 ≡ branch_sign b
-branch-sign b = go (b / 32 % 2) (omega arith)
-  where
-    go : (n : ℕ) → n < 2 → n * 4 ≡ cond (eqb n 1) 4 0
-    go zero h = refl
-    go (suc zero) h = refl
-    go (suc (suc n)) h = absurd (omega arith)
 
 -- a line of the table
 abbrev InTable : Line → Type 0

@@ -18,9 +18,6 @@ use Rattle.listing.specs.Disassemble.{Entry, decle_entry, entry_at}
 use Rattle.listing.specs.Laws.{EveryRowFollows}
 use Rattle.listing.proofs.Tests.{imp, imp-at}
 
-known-one : {A : Type 0} {i : Instr} → None ≡ Some i → A
-known-one e = let z : ◌≡◌ {A = ℕ} 0 1 = cc in absurd (omega arith)
-
 -- what an entry takes from the row of its instruction
 Follows : Entry → Instr → Bool → Type 0
 Follows e i double = (e.words ≡ (row_of i double).words) × (e.double ≡ (row_of i double).double)
@@ -44,7 +41,7 @@ module _ (read : ℕ → ℕ) (at : ℕ) where
   is_known double i e = go (cond (eqb w 4) ends (double && stacked)) (sym (decoded double) ∙ e)
     where
       go : (b : Bool) → cond b None (Some (instruction_of w)) ≡ Some i → i ≡ instruction_of w
-      go true e = known-one e
+      go true e = cc
       go false e = cc
 
   clear : (double : Bool) (i : Instr) → decode_at read at double ≡ Some i → decode_at read at false ≡ Some i
@@ -70,11 +67,11 @@ module _ (read : ℕ → ℕ) (at : ℕ) where
     where
       go : (j b s d : Bool) → cond (cond j b (d && s)) None (Some (instruction_of w)) ≡ None
           → cond (cond j b (false && s)) None (Some (instruction_of w)) ≡ Some i → (d ≡ true) × (s ≡ true)
-      go true true s d e f = known-one f
-      go true false s d e f = known-one (sym e)
+      go true true s d e f = cc
+      go true false s d e f = cc
       go false b true true e f = (refl, refl)
-      go false b false true e f = known-one (sym e)
-      go false b s false e f = known-one (sym e)
+      go false b false true e f = cc
+      go false b s false e f = cc
 
 -- a stack read has the same words under D, and clears it
 abbrev same_bool : Bool → Bool → Bool

@@ -1,9 +1,9 @@
 // A line as its row and fields, and its bytes: a row's template with each small letter replaced by what it stands for.
-#![tactic(auto, using(std::proofs::lemmas::Bool::Decides::nat_tests), unfolding(crate::specs::Inner::Line::sign_of, crate::specs::Inner::Line::field_of))]
+#![tactic(auto, using(std::proofs::lemmas::Bool::Decides::nat_tests), unfolding(crate::specs::Inner::Line::sign_of, crate::specs::Inner::Line::field_of, crate::specs::Inner::Line::glyph_of))]
 
 ghost use Rattle.std.specs.Prelude.{◌≡◌, ◌++◌, ◌%◌, ◌<◌, ◌≤◌, length, drop};
 ghost use Rattle.text.specs.Text.{same_text};
-ghost use Rattle.listing.specs.Inner.Line.{sign_of, field_of, byte_for, text_of};
+ghost use Rattle.listing.specs.Inner.Line.{sign_of, field_of, glyph_of, text_of};
 ghost use Rattle.listing.specs.Inner.Rows.{template_of, OfRegisters};
 
 use crate::rows;
@@ -44,16 +44,16 @@ impl Line {
         }
     }
 
-    // The byte that a letter of a template stands for. (A call where it is used, for the compiler makes eight symbols at once of a loop with it
-    // in it, which is slower for a line.)
-    #[inline(never)]
-    fn byte_for(&self, letter: u8) -> u8
-        ensures { result ≡ byte_for self.now letter }
+    // The byte that a symbol of a template stands for: what is no small letter stands for itself.
+    fn glyph(&self, symbol: u8) -> u8
+        ensures { result ≡ glyph_of self.now symbol }
     {
-        if letter == b'g' {
+        if symbol < b'a' {
+            symbol
+        } else if symbol == b'g' {
             sign(self.s)
         } else {
-            text::hex_digit(self.field(letter))
+            text::hex_digit(self.field(symbol))
         }
     }
 
@@ -72,16 +72,12 @@ impl Line {
         requires { (self.now.row < 86) × (14 ≤ length text.old) }
         ensures { (result ≡ length (text_of self.now)) × (text.new ≡ text_of self.now ++ drop (length (text_of self.now)) text.old) }
     {
-        let template = rows::template_at(self.row);
+        let template = rows::row_at(self.row).template;
         if SOURCE < template.len() && template[SOURCE] == b's' {
             self.write_registers(text, template);
         } else {
             for (i, symbol) in template.iter().enumerate() {
-                text[i] = if *symbol < b'a' {
-                    *symbol
-                } else {
-                    self.byte_for(*symbol)
-                };
+                text[i] = self.glyph(*symbol);
             }
         }
         template.len()

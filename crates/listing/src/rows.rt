@@ -5,9 +5,9 @@ ghost use Rattle.listing.specs.Inner.Rows.{template_of, base_of};
 // A row's line, and its opcode where s and d are 0. In a template a small letter stands for a digit of s, d or the operand (w x y z), and
 // g for the sign of a branch.
 #[derive(Clone, Copy)]
-struct TableRow {
-    template: &'static [u8],
-    base: u16,
+pub(crate) struct TableRow {
+    pub template: &'static [u8],
+    pub base: u16,
 }
 
 #[rattlefmt::skip]
@@ -166,16 +166,11 @@ pub(crate) mod names {
     pub(crate) const DECLE: usize = 85;
 }
 
-pub(crate) fn template_at(row: usize) -> &'static [u8]
+pub(crate) fn row_at(row: usize) -> &'static TableRow
     requires { row < 86 }
-    ensures { result.now ≡ template_of row }
+    ensures template { result.now.template.now ≡ template_of row }
+    ensures base { result.now.base ≡ base_of row }
+    ensures low { result.now.base < 1024 }
 {
-    ROWS[row].template
-}
-
-pub(crate) fn base_at(row: usize) -> u16
-    requires { row < 86 }
-    ensures { (result ≡ base_of row) × (result < 1024) }
-{
-    ROWS[row].base
+    &ROWS[row]
 }

@@ -27,10 +27,14 @@ pub(crate) struct Region {
     ghost ordered: { first ≤ last },
 }
 
+// A `match`, since `is_none_or` takes a machine instruction more for each start.
 fn is_longer(longest: Option<LongestWait>, cycles: u16) -> bool
     ensures { result ≡ is_longer (longest_of longest) cycles }
 {
-    longest.is_none_or(|most| most.cycles < cycles)
+    match longest {
+        None => true,
+        Some(most) => most.cycles < cycles,
+    }
 }
 
 // After one start more, by what its walk answers.
@@ -39,24 +43,16 @@ fn after(findings: Findings, walked: Walked, start: u16) -> Findings
     ensures { named_in result ≡ named_with (named_in findings) (answer_of walked) start }
 {
     match walked {
-        Walked::Wait { cycles } => {
-            let longer = is_longer(findings.longest, cycles);
-            if longer {
-                return Findings {
-                    longest: Some(LongestWait { cycles, start }),
-                    ..findings
-                };
-            }
-        }
-        Walked::Over => {
-            return Findings {
-                lowest: findings.lowest.or(Some(start)),
-                ..findings
-            };
-        }
-        Walked::Halts | Walked::Unspecified { .. } => {}
+        Walked::Wait { cycles } if is_longer(findings.longest, cycles) => Findings {
+            longest: Some(LongestWait { cycles, start }),
+            ..findings
+        },
+        Walked::Over => Findings {
+            lowest: findings.lowest.or(Some(start)),
+            ..findings
+        },
+        _ => findings,
     }
-    findings
 }
 
 // After the starts of a stretch of addresses: those whose bits are set in `starts`.

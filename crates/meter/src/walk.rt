@@ -24,7 +24,10 @@ pub(crate) struct Limit {
 }
 
 impl Limit {
-    // The limit to walk with where a call is given this one, unless that is too high.
+    // The limit to walk with where a call is given this one, unless that is too high. (Not a `match`, and made one with each caller: `wait` is then as
+    // fast as with a limit and no type.)
+    #[tactic(auto, using(std::proofs::lemmas::Bool::Decides::nat_tests), unfolding(crate::specs::Walk::limit_of))]
+    #[inline(always)]
     pub(crate) fn given(limit: u16) -> Result<Limit, Refusal>
         ensures { MatchResult result
             (λ walked. (limit ≤ highest_limit) × (walked.cycles ≡ limit_of limit))
@@ -33,8 +36,7 @@ impl Limit {
         if HIGHEST_LIMIT < limit {
             return Err(Refusal::LimitTooHigh);
         }
-        let default = limit == 0;
-        let cycles = if default { DEFAULT_LIMIT } else { limit };
+        let cycles = if limit == 0 { DEFAULT_LIMIT } else { limit };
         Ok(Limit { cycles })
     }
 }

@@ -36,7 +36,7 @@ pub(crate) fn line_of(mapping: Mapping) -> [u8; 22]
     line
 }
 
-// The number of four digits at a place.
+// The number of four digits at a place, written out as the definition has it.
 fn number_at(lines: &[u8], at: usize) -> u16
     requires { at + 4 ≤ length lines.now }
     ensures { result ≡ number_at lines.now at }

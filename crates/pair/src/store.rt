@@ -19,7 +19,8 @@ fn store_mapping(bin: &[u8], mapping: Mapping, mem: &mut [u16])
     bigendian::read_words(&bin[start..end], mem, mapping.target as usize);
 }
 
-// `lines` is the text after its first line, which the first pass found good, as it did the flat file and the memory.
+// `lines` is the text after its first line, which the first pass found good, as it did the flat file and the memory. So no line is printed and
+// compared again, as the first pass's walk would do.
 pub(crate) fn store_lines(lines: &[u8], bin: &[u8], mem: &mut [u16])
     requires { Fits (all_words bin.now) (length mem.old) (mappings_below lines.now) }
     ensures { mem.new ≡ placed_mappings (all_words bin.now) mem.old (mappings_below lines.now) }

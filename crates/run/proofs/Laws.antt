@@ -3,9 +3,9 @@ use Prim.Native.Nat.{ℕ, zero, suc, ◌+◌, ◌≤◌, ◌<◌}
 use mathlib.Core.Path.{◌≡◌, refl, ap, ap₂, sym, subst, ◌∙◌}
 use mathlib.Core.Bool.{Bool, true, false, true≢false, false≢true}
 use native.Mathlib.Omega.{arith}
-use Rattle.std.proofs.Common.{Ok, Err}
+use Rattle.std.proofs.Common.{Ok}
 use Rattle.refusal.specs.Report.{Report, refused, answered, is_refused, UnlessRefused}
-use Rattle.refusal.proofs.ReportLaws.{no_answer, same_answer, same-refusal}
+use Rattle.refusal.proofs.ReportLaws.{reported-apart}
 use Rattle.memory.specs.Bus.{Bus, admission_of}
 use Rattle.cpu.specs.declared.Lines.{Lines}
 use Rattle.cpu.specs.Machine.{Machine}
@@ -15,7 +15,7 @@ use Rattle.cpu.specs.Steps.{steps_from, last_machine, last_bus, cycles_of_all, U
 use Rattle.cpu.proofs.ActionLaws.{step-admitted, step-charged, cycles-most}
 use Rattle.run.specs.declared.Cause.{Cause}
 use Rattle.run.specs.declared.Ended.{Ended}
-use Rattle.run.specs.declared.Cause.TheVariants.{Halted, Unspecified, Budget}
+use Rattle.run.specs.declared.Cause.TheVariants.{Budget}
 use Rattle.run.specs.Run.{cause_number, RunDone, RunsApart, RunOutcome, refused_run, cause_of, finish, run_from, run_on}
 use Rattle.run.specs.Laws.{repeated, Made, SumFixesSteps, MakesItsSteps, CyclesBelow, CauseSays, CauseIsRight, BudgetIsSpent, NoBudgetNoChange}
 use Rattle.run.proofs.RunLaws.{answered-charged, ends-halted, ends-unspecified, ends-budget, Rests, budget_spent, machine_halted, form_unspecified, rests, by-turns, by-run}
@@ -158,22 +158,12 @@ no-budget-no-change m b l =
 
 -- no two causes share a number
 same-cause : (a b : Cause) → cause_number a ≡ cause_number b → a ≡ b
-same-cause Halted Halted e = refl
-same-cause Halted Unspecified e = absurd (omega arith)
-same-cause Halted Budget e = absurd (omega arith)
-same-cause Unspecified Halted e = absurd (omega arith)
-same-cause Unspecified Unspecified e = refl
-same-cause Unspecified Budget e = absurd (omega arith)
-same-cause Budget Halted e = absurd (omega arith)
-same-cause Budget Unspecified e = absurd (omega arith)
-same-cause Budget Budget e = refl
+same-cause a b e = grind arith
 
 pub runs-apart : RunsApart
-runs-apart (Err a) (Err b) e = ap Err (same-refusal a b e)
-runs-apart (Err a) (Ok x) e = no_answer e
-runs-apart (Ok x) (Err b) e = no_answer (sym e)
-runs-apart (Ok x) (Ok y) e =
-    let d = same_answer e in
+runs-apart =
+    reported-apart _
+    (λ a b e.
     let ended : ℕ → ℕ → Cause → Ended = λ s c k. record { steps = s; cycles = c; cause = k } in
-    let spent = ap₂ ended (ap (λ (z : RunDone). z.steps) d) (ap (λ (z : RunDone). z.cycles) d) in
-    ap₂ (λ (of : Cause → Ended) (k : Cause). Ok (of k)) spent (same-cause x.cause y.cause (ap (λ (z : RunDone). z.cause) d))
+    let spent = ap₂ ended (ap (λ (x : RunDone). x.steps) e) (ap (λ (x : RunDone). x.cycles) e) in
+    ap₂ (λ (of : Cause → Ended) (k : Cause). of k) spent (same-cause a.cause b.cause (ap (λ (x : RunDone). x.cause) e)))

@@ -1,8 +1,8 @@
 -- Document 01, "Run".
-use Rattle.std.specs.Prelude.{ℕ, zero, suc, ◌+◌, ◌-◌, Bool, not, cond, ◌&&◌, List, ltb, Result, Ok, Err}
+use Rattle.std.specs.Prelude.{ℕ, zero, suc, ◌+◌, ◌-◌, Bool, not, cond, ◌&&◌, List, ltb, Result}
 use Rattle.refusal.specs.declared.Refusal.{Refusal}
 use Rattle.refusal.specs.declared.Refusal.TheVariants.{BudgetTooHigh, Halted as HaltedMachine}
-use Rattle.refusal.specs.Refusals.{refusal_number}
+use Rattle.refusal.specs.Refusals.{refusal_number, reported}
 use Rattle.refusal.specs.Report.{Report, refused, answered, OneToOne}
 use Rattle.memory.specs.declared.map.Board.{Board}
 use Rattle.memory.specs.Bus.{Bus, bus_on, admission_of, unless_barred}
@@ -28,8 +28,7 @@ pub record RunDone : Type 0 where
   pub cause : ℕ
 
 abbrev pub run_report : Result Ended Refusal → Report RunDone
-run_report (Err r) = refused (refusal_number r)
-run_report (Ok e) = answered (record { steps = e.steps; cycles = e.cycles; cause = cause_number e.cause })
+run_report answer = reported (λ e. record { steps = e.steps; cycles = e.cycles; cause = cause_number e.cause }) answer
 
 -- no two answers are reported alike
 abbrev pub RunsApart : Type 0

@@ -7,7 +7,12 @@ pub returns-then-words-lt-LINE_WORDS : goal.returns-then-words-lt-LINE_WORDS
 unfolding assemble_call
 returns-then-words-lt-LINE_WORDS c = rw (lt-ltb _ _ c.if-words-lt-LINE_WORDS.true)
 
-pub returns : goal.returns
+pub returns-in-Ok : goal.returns-in-Ok
 unfolding assemble_call
-returns c =
-    rw (le-ltb _ _ c.if-words-lt-LINE_WORDS.false, ← c.assemble.ensures) c.put_assembly.ensures
+returns-in-Ok c =
+    rw (c.put_assembly.ensures.count, c.put_assembly.ensures.put, le-ltb _ _ c.if-words-lt-LINE_WORDS.false, ← c.assemble.ensures, c.in-Ok.is)
+
+pub returns-in-Err : goal.returns-in-Err
+unfolding assemble_call
+returns-in-Err c =
+    rw (c.refused.ensures, le-ltb _ _ c.if-words-lt-LINE_WORDS.false, ← c.assemble.ensures, c.in-Err.is)

@@ -1,8 +1,8 @@
 -- `cp1610_list`: a short buffer and a map that is none are refused; else the definition is rewritten back to what the lister answered; the text is short.
-use mathlib.Core.Path.{sym, ◌∙◌}
-use borrow.Author.Tests.{lt-ltb, le-ltb, not-false}
+use borrow.Author.Tests.{lt-ltb, le-ltb}
 use native.Mathlib.Omega.{arith}
-use Rattle.cp1610.specs.ListingCall.{list_call}
+use Rattle.cp1610.specs.ListingCall.{list_words, list_call}
+use Rattle.cp1610.proofs.WordLaws.{cast-flag}
 use Rattle.cp1610.proofs.EndLaws.{listing-kept, listing-short}
 use Rattle.cp1610.proofs.cp1610_list.Goals as goal
 
@@ -10,40 +10,38 @@ pub returns-then-out-lt-LIST_LENGTH : goal.returns-then-out-lt-LIST_LENGTH
 unfolding list_call
 returns-then-out-lt-LIST_LENGTH c = rw (lt-ltb _ _ c.if-out-lt-LIST_LENGTH.true)
 
-pub returns-then-not-read : goal.returns-then-not-read
+pub returns-in_default : goal.returns-in_default
 unfolding list_call
-returns-then-not-read c =
-    rw (le-ltb _ _ c.if-out-lt-LIST_LENGTH.false, ← c.read_map-read.ensures.whole, c.if-not-read.true)
+returns-in_default c = rw (le-ltb _ _ c.if-out-lt-LIST_LENGTH.false, c.in_default.ensures)
 
-pub overflow_cast-length : goal.overflow_cast-length
-overflow_cast-length c =
-    omega (arith, listing-short _ _ _ _ _ _ c.disassemble-answer.ensures c.in-Listed.is)
+pub overflow_cast-listed : goal.overflow_cast-listed
+overflow_cast-listed c = omega (arith, listing-short _ _ _ _ _ _ c.disassemble-answer.ensures c.in-Ok.is)
 
-pub returns-in-Refused : goal.returns-in-Refused
-unfolding list_call
-returns-in-Refused c =
-    let made = c.read_map-read.ensures in
-    let given = c.in-Refused.is in
-    rw (
-      le-ltb _ _ c.if-out-lt-LIST_LENGTH.false,
-      sym made.whole ∙ not-false _ c.if-not-read.false,
-      ← made.board,
-      ← c.disassemble-answer.ensures,
-      given,
-      c.number.ensures,
-      listing-kept _ _ _ _ _ _ c.disassemble-answer.ensures given,
-    )
-
-pub returns-in-Listed : goal.returns-in-Listed
-unfolding list_call
-returns-in-Listed c =
-    let made = c.read_map-read.ensures in
+pub returns-in-Ok : goal.returns-in-Ok
+unfolding list_call list_words
+returns-in-Ok c =
+    let map = c.in-Some.ensures in
     rw (
       c.success.ensures,
-      c.put_listing.ensures,
+      c.put.ensures,
       le-ltb _ _ c.if-out-lt-LIST_LENGTH.false,
-      sym made.whole ∙ not-false _ c.if-not-read.false,
-      ← made.board,
+      map.0,
+      ← map.1,
       ← c.disassemble-answer.ensures,
-      c.in-Listed.is,
+      c.in-Ok.is,
+    )
+    (simp cast-flag)
+
+pub returns-in-Err : goal.returns-in-Err
+unfolding list_call
+returns-in-Err c =
+    let map = c.in-Some.ensures in
+    rw (
+      le-ltb _ _ c.if-out-lt-LIST_LENGTH.false,
+      map.0,
+      ← map.1,
+      ← c.disassemble-answer.ensures,
+      c.in-Err.is,
+      c.refused.ensures,
+      listing-kept _ _ _ _ _ _ c.disassemble-answer.ensures c.in-Err.is,
     )

@@ -1,8 +1,7 @@
 -- `cp1610_reach`: a short buffer and a map that is none are refused; else by what building the set answered.
-use mathlib.Core.Path.{sym, ◌∙◌}
-use borrow.Author.Tests.{lt-ltb, le-ltb, not-false}
+use borrow.Author.Tests.{lt-ltb, le-ltb}
 use Rattle.cp1610.specs.MapWords.{on_map}
-use Rattle.cp1610.specs.ReachCall.{reach_call}
+use Rattle.cp1610.specs.ReachCall.{reach_words, reach_call}
 use Rattle.cp1610.proofs.ReachLaws.{reach-short, reach-refuses, reach-builds}
 use Rattle.cp1610.proofs.cp1610_reach.Goals as goal
 
@@ -13,36 +12,36 @@ returns-then-out-lt-REACH_LENGTH c =
     let ends = reach-short a.map.now (on_map a.map.now a.mem.now) a.entries.now a.clear.now a.set.now a.out.now (rw (lt-ltb _ _ c.if-out-lt-REACH_LENGTH.true)) in
     record { out_after = ends.0; holds_set = ends.1 }
 
-pub returns-then-not-read : goal.returns-then-not-read
+pub returns-in_default : goal.returns-in_default
 unfolding reach_call
-returns-then-not-read c =
+returns-in_default c =
     let a = c.args in
     let ends =
     reach-short a.map.now (on_map a.map.now a.mem.now) a.entries.now a.clear.now a.set.now a.out.now
-    (rw (le-ltb _ _ c.if-out-lt-REACH_LENGTH.false, ← c.read_map-read.ensures.whole, c.if-not-read.true))
+    (rw (le-ltb _ _ c.if-out-lt-REACH_LENGTH.false, c.in_default.ensures))
     in
     record { out_after = ends.0; holds_set = ends.1 }
 
-pub returns-in-Refused : goal.returns-in-Refused
+pub returns-in-Err : goal.returns-in-Err
 unfolding reach_call
-returns-in-Refused c =
+returns-in-Err c =
     let a = c.args in
-    let made = c.read_map-read.ensures in
+    let map = c.in-Some.ensures in
     let ends =
-    reach-refuses a.map.now a.mem.now a.entries.now a.clear.now a.set.now a.out.now _ _ {c = c.reach-answer.new.clear} {s = c.reach-answer.new.set} made.board
-    (rw (le-ltb _ _ c.if-out-lt-REACH_LENGTH.false, sym made.whole ∙ not-false _ c.if-not-read.false))
-    c.reach-answer.ensures c.in-Refused.is c.number.ensures
+    reach-refuses a.map.now a.mem.now a.entries.now a.clear.now a.set.now a.out.now _ _ {c = c.reach.new.clear} {s = c.reach.new.set} map.1
+    (rw (le-ltb _ _ c.if-out-lt-REACH_LENGTH.false, map.0))
+    c.reach.ensures c.in-Err.is c.refused.ensures
     in
     record { out_after = ends.0; holds_set = ends.1 }
 
-pub returns-in-Built : goal.returns-in-Built
-unfolding reach_call
-returns-in-Built c =
+pub returns-in-Ok : goal.returns-in-Ok
+unfolding reach_call reach_words
+returns-in-Ok c =
     let a = c.args in
-    let made = c.read_map-read.ensures in
+    let map = c.in-Some.ensures in
     let ends =
-    reach-builds a.map.now a.mem.now a.entries.now a.clear.now a.set.now a.out.now _ _ {c = c.reach-answer.new.clear} {s = c.reach-answer.new.set} made.board
-    (rw (le-ltb _ _ c.if-out-lt-REACH_LENGTH.false, sym made.whole ∙ not-false _ c.if-not-read.false))
-    c.reach-answer.ensures c.in-Built.is c.success.ensures c.put_summary.ensures
+    reach-builds a.map.now a.mem.now a.entries.now a.clear.now a.set.now a.out.now _ _ {c = c.reach.new.clear} {s = c.reach.new.set} map.1
+    (rw (le-ltb _ _ c.if-out-lt-REACH_LENGTH.false, map.0))
+    c.reach.ensures c.in-Ok.is c.success.ensures (rw (c.put.ensures, c.summary_words.ensures))
     in
     record { out_after = ends.0; holds_set = ends.1 }

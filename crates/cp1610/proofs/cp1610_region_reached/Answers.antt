@@ -1,6 +1,5 @@
 -- `cp1610_region_reached`: a short buffer and a map that is none are refused; else the definition is rewritten back to what the meter answered.
-use mathlib.Core.Path.{sym, ◌∙◌}
-use borrow.Author.Tests.{lt-ltb, le-ltb, not-false}
+use borrow.Author.Tests.{lt-ltb, le-ltb}
 use Rattle.cp1610.specs.MeterCall.{region_reached_call}
 use Rattle.cp1610.proofs.cp1610_region_reached.Goals as goal
 
@@ -8,12 +7,12 @@ pub returns-then-out-lt-REGION_LENGTH : goal.returns-then-out-lt-REGION_LENGTH
 unfolding region_reached_call
 returns-then-out-lt-REGION_LENGTH c = rw (lt-ltb _ _ c.if-out-lt-REGION_LENGTH.true)
 
-pub returns-then-not-read : goal.returns-then-not-read
+pub returns-in_default : goal.returns-in_default
 unfolding region_reached_call
-returns-then-not-read c = rw (le-ltb _ _ c.if-out-lt-REGION_LENGTH.false, ← c.read_map-read.ensures.whole, c.if-not-read.true)
+returns-in_default c = rw (le-ltb _ _ c.if-out-lt-REGION_LENGTH.false, c.in_default.ensures)
 
 pub returns : goal.returns
 unfolding region_reached_call
 returns c =
-    let made = c.read_map-read.ensures in
-    rw (le-ltb _ _ c.if-out-lt-REGION_LENGTH.false, sym made.whole ∙ not-false _ c.if-not-read.false, ← made.board, ← c.region_reached.ensures) c.region_word.ensures
+    let map = c.in-Some.ensures in
+    rw (le-ltb _ _ c.if-out-lt-REGION_LENGTH.false, map.0, ← map.1, ← c.region_reached.ensures) c.region_word.ensures

@@ -1,15 +1,19 @@
--- `cp1610_wait`: a map that is none is refused; else the definition, by what the meter and its word answer.
-use mathlib.Core.Path.{sym, ◌∙◌}
-use borrow.Author.Tests.{not-false}
+-- `cp1610_wait`: a map that is none is refused; else the definition, by what the meter answers.
 use Rattle.cp1610.specs.MeterCall.{wait_call}
-use Rattle.cp1610.proofs.EndLaws.{wait-ends}
 use Rattle.cp1610.proofs.cp1610_wait.Goals as goal
 
-pub returns-then-not-read : goal.returns-then-not-read
+pub returns-in_default : goal.returns-in_default
 unfolding wait_call
-returns-then-not-read c = rw (← c.read_map-read.ensures.whole, c.if-not-read.true)
+returns-in_default c = rw c.in_default.ensures
 
-pub returns : goal.returns
-returns c =
-    let made = c.read_map-read.ensures in
-    rw (c.wait_word.ensures, c.wait.ensures, made.board) (wait-ends _ _ _ _ (sym made.whole ∙ not-false _ c.if-not-read.false))
+pub returns-in-Ok : goal.returns-in-Ok
+unfolding wait_call
+returns-in-Ok c =
+    let map = c.in-Some.ensures in
+    rw (c.walked_word.ensures, map.0, ← map.1, ← c.in-Ok.ensures)
+
+pub returns-in-Err : goal.returns-in-Err
+unfolding wait_call
+returns-in-Err c =
+    let map = c.in-Some.ensures in
+    rw (c.refused.ensures, map.0, ← map.1, ← c.in-Err.ensures)

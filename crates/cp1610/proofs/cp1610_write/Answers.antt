@@ -1,25 +1,19 @@
--- `cp1610_write`: the definition is rewritten back to what the writer answered; the file is no longer than the room.
-use mathlib.Core.Path.{ap}
+-- `cp1610_write`: the writer's word is the result; the file is no longer than the room.
 use native.Mathlib.Omega.{arith}
-use Rattle.image.specs.Answer.{write_reported}
+use lib.ListN.{length}
 use Rattle.cp1610.specs.ImageCall.{write_call}
 use Rattle.cp1610.proofs.ReportLaws.{told-writing}
-use Rattle.cp1610.proofs.EndLaws.{count_most, count-refused, count-answered}
+use Rattle.cp1610.proofs.EndLaws.{load-ends, load_low, counts-alike}
 use Rattle.cp1610.proofs.cp1610_write.Goals as goal
 
-pub counted-requires : goal.counted-requires
-counted-requires c =
-    let e = c.write-answer.ensures in
-    omega (arith, count_most _ _ _ _ (told-writing _ _ _ _ _ e) (ap write_reported c.in-Written.is))
+pub count_word-requires : goal.count_word-requires
+count_word-requires c =
+    let a = c.args in
+    rw counts-alike (load_low a.room.now c.write.new.room (length a.room.now) _ (told-writing a.board a.mem.now a.first a.last a.room.now c.write.ensures) (omega arith))
 
-pub returns-in-Refused : goal.returns-in-Refused
+pub returns : goal.returns
 unfolding write_call
-returns-in-Refused c =
-    let e = c.write-answer.ensures in
-    rw (← e, c.number.ensures) (count-refused _ _ _ _ (told-writing _ _ _ _ _ e) (ap write_reported c.in-Refused.is))
-
-pub returns-in-Written : goal.returns-in-Written
-unfolding write_call
-returns-in-Written c =
-    let e = c.write-answer.ensures in
-    rw (← e, c.counted.ensures) (count-answered _ _ _ (ap write_reported c.in-Written.is))
+returns c =
+    let a = c.args in
+    let e = c.write.ensures in
+    rw (← e, c.count_word.ensures, counts-alike) (load-ends a.room.now c.write.new.room (length a.room.now) _ (told-writing a.board a.mem.now a.first a.last a.room.now e))

@@ -1,9 +1,7 @@
 -- The look at the next step goes by its plan.
 use Prim.Native.Nat.{ℕ}
-use mathlib.Core.Path.{ap, sym, subst, ◌∙◌}
+use mathlib.Core.Path.{ap, sym, ◌∙◌}
 use lib.ListN.{get_or}
-use Rattle.memory.specs.Near.{Near}
-use Rattle.memory.proofs.NearLaws.{near-laws}
 use Rattle.decode.specs.Decode.{decode_at}
 use Rattle.cpu.specs.declared.Plan.TheVariants.{Halting, Granting, Interrupting, Executing}
 use Rattle.cpu.specs.Step.{refused_step, granted, interrupted}
@@ -32,8 +30,7 @@ returns-in-Interrupting c =
 pub returns-in-Executing : goal.returns-in-Executing
 returns-in-Executing c =
     let a = c.args in
-    let near = subst (Near a.board) (sym c.no_range.ensures) (near-laws.none a.board) in
     c.is_unspecified_at.ensures
-    ∙ ap (λ (read : ℕ → ℕ). is_unspecified_form (decode_at read (get_or a.state.registers 7 0) c.noted-status.result.d)) (near-laws.reads a.board _ a.mem.now near)
+    ∙ ap (λ (read : ℕ → ℕ). is_unspecified_form (decode_at read (get_or a.state.registers 7 0) c.noted-status.result.d)) c.at.ensures
     ∙ looks-ahead a.state.registers c.noted-status.result _ _ a.lines
     ∙ sym (looked-planned _ _ _ c.noted-status.ensures _ _ Executing (sym c.plan_of-plan.ensures ∙ c.in-Executing.is))

@@ -1,5 +1,5 @@
 -- The operands of reads and the results of operates, as the code has them.
-use Rattle.std.specs.Prelude.{ℕ, Bool, false, cond, ◌||◌, List, eqb, get_or}
+use Rattle.std.specs.Prelude.{ℕ, ◌%◌, Bool, false, cond, ◌||◌, List, eqb, get_or}
 use Rattle.std.specs.Int.Bits.{bit_and, bit_xor}
 use Rattle.word.specs.declared.Flagged.{Flagged}
 use Rattle.word.specs.Word.{wrap_add, wrap_sub}
@@ -44,18 +44,16 @@ fetched_of r read pc double s =
 unfoldable pub destination_of : List ℕ → ℕ → Fetched → ℕ → ℕ
 destination_of r next g d = cond (eqb d g.pointer) g.moved (get_or (with_register 7 next r) d 0)
 
+-- an operate or a read that is no move, by bits 8 to 6 of its opcode
+unfoldable pub operated : ℕ → Flagged → ℕ → Flagged
+operated n f y =
+    cond (eqb n 3) (add_of f.value y)
+    (cond (eqb n 4) (subtract_of f.value y)
+    (cond (eqb n 5) (compare_of f.value y)
+    (cond (eqb n 6) (set_sz (bit_and f.value y) f) (set_sz (bit_xor f.value y) f))))
+
 unfoldable pub register_result : ℕ → Flagged → ℕ → Flagged
-register_result row f y =
-    cond (eqb row 2) (set_sz y f)
-    (cond (eqb row 3) (add_of f.value y)
-    (cond (eqb row 4) (subtract_of f.value y)
-    (cond (eqb row 5) (compare_of f.value y)
-    (cond (eqb row 6) (set_sz (bit_and f.value y) f) (set_sz (bit_xor f.value y) f)))))
+register_result row f y = cond (eqb row 2) (set_sz y f) (operated row f y)
 
 unfoldable pub fetched_result : ℕ → Flagged → ℕ → Flagged
-fetched_result row f y =
-    cond (eqb row 10) (record { value = y; s = f.s; z = f.z; o = f.o; c = f.c })
-    (cond (eqb row 11) (add_of f.value y)
-    (cond (eqb row 12) (subtract_of f.value y)
-    (cond (eqb row 13) (compare_of f.value y)
-    (cond (eqb row 14) (set_sz (bit_and f.value y) f) (set_sz (bit_xor f.value y) f)))))
+fetched_result row f y = cond (eqb row 10) (record { value = y; s = f.s; z = f.z; o = f.o; c = f.c }) (operated (row % 8) f y)

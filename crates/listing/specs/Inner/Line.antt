@@ -21,13 +21,9 @@ field_of l h =
     (cond (eqb h (code "x")) (l.operand / 256 % 16)
     (cond (eqb h (code "y")) (l.operand / 16 % 16) (l.operand % 16)))))
 
--- what is printed for a small letter of a template: for g the sign, for any other letter its digit
-abbrev pub byte_for : Line → ℕ → ℕ
-byte_for l h = cond (eqb h (code "g")) (sign_of l.s) (digit_of (field_of l h))
-
--- what is printed for a symbol of a template: what is no small letter as it is
+-- what is printed for a symbol of a template: what is no small letter as it is, for g the sign, for any other letter its digit
 unfoldable pub glyph_of : Line → ℕ → ℕ
-glyph_of l h = cond (ltb h first_letter) h (byte_for l h)
+glyph_of l h = cond (ltb h first_letter) h (cond (eqb h (code "g")) (sign_of l.s) (digit_of (field_of l h)))
 
 -- the bytes of a line
 unfoldable pub text_of : Line → List ℕ

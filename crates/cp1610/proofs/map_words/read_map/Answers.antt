@@ -1,44 +1,37 @@
--- `map_words::read_map`: the first i ranges are in the array, and their kinds were looked at.
-use Prim.Native.Nat.{◌/◌, ◌%◌, ◌<◌}
-use mathlib.Core.Bool.{Bool, true, false, ◌&&◌}
-use mathlib.Core.Path.{◌≡◌, refl, ◌∙◌}
+-- `map_words::read_map`: the first i ranges are in the array, and the kind of each is one.
+use Prim.Native.Nat.{◌/◌}
+use mathlib.Core.Path.{◌≡◌, refl}
 use native.Mathlib.Numerals.{add-one}
-use lib.Dec.{eqb, leb}
+use native.Mathlib.Omega.{arith}
 use lib.ListN.{length}
-use borrow.Author.Rules.{rules}
+use borrow.Author.Tests.{ne_eqb, eq-eqb}
 use Rattle.memory.specs.Map.{listed_in}
-use Rattle.cp1610.specs.MapWords.{kind_word, ranges_to, kinds_to, board_of, is_map}
-use Rattle.cp1610.proofs.MapLaws.{fill}
+use Rattle.cp1610.specs.MapWords.{ranges_to, kinds_to, board_of, is_map}
+use Rattle.cp1610.proofs.MapLaws.{fill, is-none, kind-some}
 use Rattle.cp1610.proofs.map_words.read_map.Goals as goal
 
-and-true : (t : Bool) → t ≡ (t && true)
-and-true true = refl
-and-true false = refl
-
-and_assoc : (t u v : Bool) → ((t && u) && v) ≡ (t && (u && v))
-and_assoc true u v = refl
-and_assoc false u v = refl
+pub returns-then-map-ne0 : goal.returns-then-map-ne0
+unfolding is_map
+returns-then-map-ne0 c = rw (ne_eqb _ _ c.if-map-ne0.true)
 
 pub loop-i-init : goal.loop-i-init
 unfolding kinds_to ranges_to
-loop-i-init c = (search rules, refl, and-true _)
+loop-i-init c = (refl, refl)
+
+pub returns-in_err-ranges : goal.returns-in_err-ranges
+unfolding is_map
+returns-in_err-ranges c =
+    rw c.from_residual.ensures (is-none _ _ _ _ (omega (arith, c.listed-i-end.ensures.0)) c.in_err-ranges.ensures)
 
 pub loop-i-preserved : goal.loop-i-preserved
-unfolding kinds_to
 loop-i-preserved c =
-    let l = c.loop-i in
+    let k = c.loop-i.invariant in
     let map = c.args.map.now in
-    let few : l.i < 16 = search (rules, c.listed-end.ensures) in (
-      search rules,
-      rw (add-one, l.invariant.1, c.range_at.ensures) (fill l.i map few),
-      rw (add-one, l.invariant.2) (and_assoc (eqb (length map % 3) 0) (kinds_to l.i map) (leb (kind_word map l.i) 2)),
-    )
+    (rw (add-one, k.0, c.in_ok-ranges.ensures.1) (fill c.loop-i.i map (omega arith)), rw add-one (kind-some _ map k.1 c.in_ok-ranges.ensures.0))
 
 pub returns : goal.returns
 unfolding board_of is_map
 returns c =
-    let l = c.loop-i in
-    let map = c.args.map.now in
-    let ended : l.i ≡ c.listed-end.result = search rules in
-    let all : l.i ≡ listed_in (length map / 3) = ended ∙ c.listed-end.ensures.0 in
-    record { board = rw (l.invariant.1, all); whole = rw (l.invariant.2, all) }
+    let k = c.loop-i.invariant in
+    let all : c.loop-i.i ≡ listed_in (length c.args.map.now / 3) = omega (arith, c.listed-i-end.ensures.0) in
+    (rw (eq-eqb _ _ c.if-map-ne0.false, ← all, k.1), rw (k.0, all))

@@ -1,8 +1,8 @@
--- `pack`: eighteen stores in a row leave the words of the state and keep the rest.
-use Rattle.cpu.specs.Machine.{machine_of}
-use Rattle.cp1610.proofs.WordLaws.{cast-flag, stored-words}
+-- `pack`: the words of the state, with each flag as a number.
+use Rattle.cp1610.specs.Words.{packed}
+use Rattle.cp1610.proofs.WordLaws.{cast-flag}
 use Rattle.cp1610.proofs.words.pack.Goals as goal
 
 pub returns : goal.returns
-returns c =
-    simp cast-flag (stored-words c.args.words.now (machine_of c.args.state) c.requires)
+unfolding packed
+returns c = rw c.put.ensures (simp cast-flag)

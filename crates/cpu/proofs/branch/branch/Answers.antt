@@ -1,16 +1,15 @@
 -- Taken, or not.
 use mathlib.Core.Path.{sym, ◌∙◌}
-use Rattle.memory.specs.Bus.{bus_on, read_of}
-use Rattle.memory.specs.Near.{in_front}
+use Rattle.memory.specs.Near.{reads}
 use Rattle.cpu.proofs.RowAnswers.{taken-leaves, not-taken-leaves}
 use Rattle.cpu.proofs.branch.branch.Goals as goal
 
-pub returns-then-taken : goal.returns-then-taken
-returns-then-taken c = λ r.
+pub returns-then-is_taken : goal.returns-then-is_taken
+returns-then-is_taken c = λ r.
     rw (c.goes_to.ensures, c.branch_target.ensures, c.branch_row.ensures, c.read-displacement.ensures, c.wrapping_add.ensures)
-    (taken-leaves c.args.status _ r (read_of (bus_on (in_front c.args.near c.args.board) c.args.mem.now)) _ _ (sym c.is_taken-taken.ensures ∙ c.if-taken.true))
+    (taken-leaves c.args.status _ r (reads c.args.view.now) _ _ (sym c.is_taken.ensures ∙ c.if-is_taken.true))
 
-pub returns-else-taken : goal.returns-else-taken
-returns-else-taken c = λ r.
-    rw (c.goes_to-else-taken.ensures, c.wrapping_add-else-taken.ensures, c.branch_row-row.ensures)
-    (not-taken-leaves c.args.status _ r (read_of (bus_on (in_front c.args.near c.args.board) c.args.mem.now)) _ _ (sym c.is_taken-taken.ensures ∙ c.if-taken.false))
+pub returns-else-is_taken : goal.returns-else-is_taken
+returns-else-is_taken c = λ r.
+    rw (c.goes_on.ensures, c.branch_row-else-is_taken.ensures)
+    (not-taken-leaves c.args.status _ r (reads c.args.view.now) _ _ (sym c.is_taken.ensures ∙ c.if-is_taken.false))

@@ -16,8 +16,8 @@ unfolding interrupts_after
 bits-say second i =
     by-eight (λ n. get_or (i ∷ true ∷ []) n false ≡ cond (eqb n 0) i (eqb n 1)) refl refl refl refl refl refl refl refl (second % 4) (omega arith)
 
-pub returns-then-kept : goal.returns-then-kept
-returns-then-kept c = rw (bits-say, eq-eqb _ _ c.if-kept.true)
+pub returns-then-bits-eq0 : goal.returns-then-bits-eq0
+returns-then-bits-eq0 c = rw (bits-say, eq-eqb _ _ c.if-bits-eq0.true)
 
-pub returns-else-kept : goal.returns-else-kept
-returns-else-kept c = rw (bits-say, ne_eqb _ _ c.if-kept.false)
+pub returns-else-bits-eq0 : goal.returns-else-bits-eq0
+returns-else-bits-eq0 c = rw (bits-say, ne_eqb _ _ c.if-bits-eq0.false)

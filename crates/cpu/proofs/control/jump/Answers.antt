@@ -1,10 +1,9 @@
 -- The jumps.
-use Rattle.memory.specs.Bus.{bus_on, read_of}
-use Rattle.memory.specs.Near.{in_front}
+use Rattle.memory.specs.Near.{reads}
 use Rattle.cpu.proofs.RowAnswers.{jump-leaves}
 use Rattle.cpu.proofs.control.jump.Goals as goal
 
 pub returns : goal.returns
 returns c = λ r external.
-    rw (c.status_after.ensures, c.held.ensures, c.jump_target.ensures, c.wrapping_add-3.ensures, c.return_register.ensures, c.interrupts_after-i.ensures, c.jump_row-row.ensures)
-    (jump-leaves c.args.status _ r (read_of (bus_on (in_front c.args.near c.args.board) c.args.mem.now)) external _ _ (rw c.wrapping_add.ensures at c.read-second.ensures) (rw c.wrapping_add-2.ensures at c.read-third.ensures))
+    rw (c.goes_to.ensures, c.status_after.ensures, c.held.ensures, c.jump_target.ensures, c.wrapping_add-3.ensures, c.return_register.ensures, c.interrupts_after-i.ensures, c.jump_row-row.ensures)
+    (jump-leaves c.args.status _ r (reads c.args.view.now) external _ _ (rw c.wrapping_add.ensures at c.read-second.ensures) (rw c.wrapping_add-2.ensures at c.read-third.ensures))

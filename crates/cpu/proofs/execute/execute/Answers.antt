@@ -1,8 +1,9 @@
 -- Each kind of instruction has its row.
 use Prim.Native.Nat.{ℕ}
 use mathlib.Core.Path.{refl}
-use Rattle.std.proofs.Common.{arith}
+use Rattle.std.proofs.Common.{arith, inl, inr}
 use Rattle.std.proofs.lemmas.Bool.Decides.{nat_tests}
+use Rattle.cpu.proofs.RowAnswers.{halt-leaves, idle-leaves}
 use Rattle.cpu.proofs.execute.execute.Goals as goal
 
 -- a row that reads no memory holds with any reader, and one that is no branch with any external inputs
@@ -28,7 +29,9 @@ pub read-requires : goal.read-requires
 read-requires c = grind (arith, nat_tests)
 
 pub returns-in-Hlt : goal.returns-in-Hlt
-returns-in-Hlt c = rw c.in-Hlt.is record { change = c.halt.ensures _ none 0; memory = refl }
+returns-in-Hlt c =
+    let a = c.args in
+    rw (c.in-Hlt.is, c.goes_on.ensures, c.halt_row.ensures) record { change = halt-leaves a.status a.pc _ none 0; memory = refl }
 
 pub returns-in-Control : goal.returns-in-Control
 returns-in-Control c = rw c.in-Control.is record { change = c.control.ensures _ none 0; memory = refl }
@@ -43,10 +46,12 @@ pub returns-in-Gswd : goal.returns-in-Gswd
 returns-in-Gswd c = rw c.in-Gswd.is record { change = c.gswd.ensures _ none 0; memory = refl }
 
 pub returns-in-Nop : goal.returns-in-Nop
-returns-in-Nop c = rw c.in-Nop.is record { change = c.idle.ensures _ 0 none 0; memory = refl }
-
-pub returns-in-Sin : goal.returns-in-Sin
-returns-in-Sin c = rw c.in-Sin.is record { change = c.idle-in-Sin.ensures _ 0 none 0; memory = refl }
+returns-in-Nop c =
+    let a = c.args in
+    rw (c.goes_on-in-Nop.ensures, c.register_row.ensures) elim c.in-Nop.is [
+      | inl w ↦ rw w.1 record { change = idle-leaves a.status a.pc _ none 0 0; memory = refl }
+      | inr w ↦ rw w.1 record { change = idle-leaves a.status a.pc _ none 0 0; memory = refl }
+    ]
 
 pub returns-in-Shift : goal.returns-in-Shift
 returns-in-Shift c = rw c.in-Shift.is record { change = c.shifted.ensures none 0; memory = refl }

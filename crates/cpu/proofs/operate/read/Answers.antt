@@ -5,5 +5,5 @@ use Rattle.cpu.proofs.operate.read.Goals as goal
 pub returns : goal.returns
 returns c =
     let pre = c.requires in
-    rw (c.status_after.ensures, c.read_result-result.ensures, c.held-f.ensures, c.destination.ensures, c.wrapping_add-next.ensures, c.fetch-fetched.ensures)
+    rw (c.writes_to.ensures, c.read_result-result.ensures, c.held-f.ensures, c.destination.ensures, c.wrapping_add-next.ensures, c.fetch-fetched.ensures)
     (read-leaves _ _ c.args.status _ _ _ _ pre.0 pre.1 pre.2 pre.3)

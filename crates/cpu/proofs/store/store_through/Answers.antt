@@ -5,5 +5,5 @@ use Rattle.cpu.proofs.store.store_through.Goals as goal
 pub returns : goal.returns
 returns c = λ read.
     let pre = c.requires in
-    rw (c.status_after.ensures, c.held.ensures, c.wrapping_add.ensures, c.store_pointer.ensures, c.store.ensures, c.register.ensures, c.register-address.ensures, c.wrapping_add-next.ensures, c.store_row-row.ensures)
+    rw (c.goes_on.ensures, c.wrapping_add.ensures, c.store_pointer.ensures, c.store.ensures, c.register.ensures, c.register-address.ensures, c.store_row-row.ensures)
     (through-stores _ _ c.args.status read _ pre.0 _ pre.4 _ pre.1 pre.2 pre.3)

@@ -1,18 +1,10 @@
--- `entry::entry_at`: of the three words there, which the range at hand reads as the map does.
+-- `entry::entry_at`: of the three words there, which the view reads as the board does.
 use Prim.Native.Nat.{ℕ}
 use mathlib.Core.Path.{ap, ◌∙◌}
-use Rattle.memory.specs.Bus.{bus_on, read_of}
-use Rattle.memory.specs.Near.{in_front, no_range, Near}
-use Rattle.memory.proofs.NearLaws.{near-laws}
+use Rattle.memory.specs.Near.{reads}
 use Rattle.listing.specs.Inner.Entry.{row_entry_at}
 use Rattle.listing.proofs.Entries.{entry-of-words}
 use Rattle.listing.proofs.entry.entry_at.Goals as goal
-use Rattle.listing.proofs.entry.entry_at.Goals.{After-near_to-at_hand}
-
-at_hand : (c : After-near_to-at_hand) → Near c.args.board c.near_to-at_hand.result
-at_hand c =
-    let a = c.args in
-    rw (c.near_to-at_hand.ensures, c.no_range.ensures) (near-laws.moves a.board no_range a.at (near-laws.none a.board))
 
 pub returns : goal.returns
 returns c =
@@ -25,5 +17,5 @@ returns c =
       c.wrapping_add.ensures,
       c.read-first.ensures,
     )
-    (entry-of-words (read_of (bus_on (in_front c.near_to-at_hand.result a.board) a.mem.now)) a.at a.double
-    ∙ ap (λ (read : ℕ → ℕ). row_entry_at read a.at a.double) (near-laws.reads a.board c.near_to-at_hand.result a.mem.now (at_hand (goal.at.returns c).After-near_to-at_hand)))
+    (entry-of-words (reads c.at-view.result) a.at a.double
+    ∙ ap (λ (read : ℕ → ℕ). row_entry_at read a.at a.double) c.at-view.ensures)

@@ -1,5 +1,0 @@
--- `lowest_writer_words`: each arm is a clause of `lowest_writer_words`.
-use Rattle.cp1610.proofs.reach_words.lowest_writer_words.Goals as goal
-
-pub returns-in-At : goal.returns-in-At
-returns-in-At c = rw c.in-At.is
