@@ -25,8 +25,12 @@ is_list value = length value % 5 == 4 && list_all (λ p. fits_column p.1 p.0) (e
 abbrev pub is_number : List ℕ → Bool
 is_number value = (nat_lt 0 (length value) && nat_le (length value) 18) && all_stand_in value decimal_digits
 
+-- so many binary digits
+abbrev pub are_bits : ℕ → List ℕ → Bool
+are_bits count value = length value == count && all_stand_in value (quoted "01")
+
 abbrev pub is_bit : List ℕ → Bool
-is_bit value = length value == 1 && all_stand_in value (quoted "01")
+is_bit value = are_bits 1 value
 
 -- bytes of two digits each, or none
 abbrev pub is_hex : List ℕ → Bool

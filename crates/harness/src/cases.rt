@@ -92,7 +92,7 @@ impl<'a> Iterator for Cases<'a> {
     }
 }
 
-// Prints what the line of a case begins with.
+// Prints what the line of a case begins with. A name is bytes of the input, which need not be text.
 pub fn begin(rt: &impl Print, name: &[u8]) {
     let _ = rt.write_all(name);
     let _ = rt.print(": ");

@@ -44,6 +44,7 @@ use crate::text;
 
 const BLANK: u8 = b' ';
 
+// The parts of a row by the mark between them, here and in `text`, are one line each: a parameter for the mark would name none of them.
 pub fn kind(row: &[u8]) -> &[u8]
     ensures { result.now ≡ kind_of_row row.now }
 {
@@ -194,6 +195,7 @@ pub fn number(fields: &[u8], key: &[u8], default: u64) -> u64
     find_number(fields, key).unwrap_or(default)
 }
 
+// A key and what stands where it is missing go into each of these lookups: a struct of the two would be taken apart at once.
 pub fn bit(fields: &[u8], key: &[u8], default: bool) -> bool
     ensures { result ≡ bit_of_key fields.now key.now default }
 {

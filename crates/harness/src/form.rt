@@ -13,7 +13,7 @@
 //
 // The key `0000` stands for every key of four hexadecimal digits.
 ghost use Rattle.std.specs.Prelude.{◌≡◌};
-ghost use Rattle.harness.specs.Forms.{is_word, fits_column, is_list, is_number, is_bit, is_hex};
+ghost use Rattle.harness.specs.Forms.{is_word, fits_column, is_list, is_number, are_bits, is_hex};
 ghost use Rattle.harness.specs.Forms.{is_range_kind, is_range, are_ranges, is_map_text};
 ghost use Rattle.harness.specs.Forms.{without_first, are_picked, are_letters, has_form, first_key, form_of_key, first_fits, fit_form};
 
@@ -58,10 +58,11 @@ fn is_number(value: &[u8]) -> bool
     (0 < value.len()) & (value.len() <= 18) & text::all_stand_in(value, b"0123456789")
 }
 
-fn is_bit(value: &[u8]) -> bool
-    ensures { result ≡ is_bit value.now }
+// So many binary digits.
+pub fn are_bits(value: &[u8], count: usize) -> bool
+    ensures { result ≡ are_bits count value.now }
 {
-    (value.len() == 1) & text::all_stand_in(value, b"01")
+    (value.len() == count) & text::all_stand_in(value, b"01")
 }
 
 // Bytes of two hexadecimal digits each, or none.
@@ -134,7 +135,7 @@ fn has_form(value: &[u8], form: &[u8]) -> bool
         b'w' => is_word(value),
         b'l' => is_list(value),
         b'n' => is_number(value),
-        b'b' => is_bit(value),
+        b'b' => are_bits(value, 1),
         b'h' => is_hex(value),
         b'm' => is_map(value),
         b'a' => true,

@@ -128,6 +128,7 @@ fn digit_at(row: &[u8], column: usize) -> u16
     if decimal { byte % 16 } else { (byte + 9) % 16 }
 }
 
+// Two digits here and four below, written out: a loop over them would have to keep its sum within 16 bits.
 pub fn hex_byte(row: &[u8], column: usize) -> u8
     ensures { result ≡ hex_number 2 (drop column row.now) }
 {

@@ -1,7 +1,7 @@
 // Runs of words as the fields of a row tell them: `0100=02E4,0005`.
 ghost use Rattle.std.specs.Prelude.{◌≡◌, ◌*◌, length, drop, slice_set, replicate};
 ghost use Rattle.harness.specs.Text.{quoted, hex_number};
-ghost use Rattle.harness.specs.Fields.{word_of_key};
+ghost use Rattle.harness.specs.Fields.{word_of_key, number_of_key};
 ghost use Rattle.harness.specs.Words.{words_in_list, tells_words, with_list_at, with_first, with_words, is_inside, are_inside};
 
 use crate::fields::Fields;
@@ -26,7 +26,7 @@ fn tells_words(row: &[u8]) -> bool
     form::is_word(form::first_key(row))
 }
 
-// Puts a word at a place. A place past the memory's end is passed over.
+// Puts a word at a place. A place past the memory's end is passed over: by a test, since a proof knows no word behind `get_mut`.
 fn put_at(memory: &mut [u16], at: usize, word: u16)
     ensures { memory.new ≡ slice_set memory.old at word }
 {
@@ -60,6 +60,13 @@ pub fn put(memory: &mut [u16], fields: &[u8])
     for field in Fields::of(fields) {
         put_first(memory, field);
     }
+}
+
+// How many words the memory of a case has.
+pub fn size_of(before: &[u8]) -> u64
+    ensures { result ≡ number_of_key before.now (quoted "size") 65536 }
+{
+    fields::number(before, b"size", 65536)
 }
 
 // Makes the memory that a case begins with: the words that its fields tell, and elsewhere the word `fill`, 5A5A where there is none.

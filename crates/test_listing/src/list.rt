@@ -40,7 +40,7 @@ fn put_text(room: &mut [u8], line: &[u8]) {
 
 // Lists from the first `size` words into the first `room` bytes.
 fn is_listed(memory: &[u16], text: &mut [u8], before: &[u8], after: &[u8]) -> bool {
-    let size = fields::number(before, b"size", 65536) as usize;
+    let size = words::size_of(before) as usize;
     let room = fields::number(before, b"room", 16) as usize;
     let address = fields::word(before, b"address", 0);
     let double = fields::bit(before, b"d", false);

@@ -18,7 +18,7 @@ fn is_well(case: Case, memory: &mut [u16]) -> bool {
     let Some((call, before, after)) = rows::parts_of(case) else {
         return false;
     };
-    let Some(memory) = memory.get_mut(..rows::size_of(before)) else {
+    let Some(memory) = memory.get_mut(..words::size_of(before) as usize) else {
         return false;
     };
     words::lay(memory, before);

@@ -9,6 +9,7 @@ pub(crate) enum Call {
     Region,
 }
 
+// The words of this program's cases.
 fn call_of(case: Case) -> Option<Call> {
     match case.kind() {
         b"wait" => Some(Call::Wait),
@@ -51,20 +52,11 @@ pub(crate) fn parts_of<'a>(case: Case<'a>) -> Option<(Call, &'a [u8], &'a [u8])>
     let before = case.before()?;
     let after = case.after()?;
     if are_of(call, before, after)
-        & words::are_inside(before, size_of(before))
+        & words::are_inside(before, words::size_of(before) as usize)
         & (fields::number(before, b"limit", 0) < 65536)
     {
         Some((call, before, after))
     } else {
         None
     }
-}
-
-// How many words the lent memory has.
-pub(crate) fn size_of(before: &[u8]) -> usize {
-    fields::number(before, b"size", 65536) as usize
-}
-
-pub(crate) fn limit_of(before: &[u8]) -> u16 {
-    (fields::number(before, b"limit", 0) % 65536) as u16
 }

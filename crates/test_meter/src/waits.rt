@@ -1,6 +1,5 @@
 // The meter for an address: its call, and its answer compared with what a case tells.
-use crate::rows;
-use harness::{fields, map};
+use harness::{fields, findings, map};
 use meter::Walked;
 use refusal::Refusal;
 
@@ -25,6 +24,6 @@ fn tells_answer(after: &[u8], answer: Result<Walked, Refusal>) -> bool {
 pub(crate) fn agree(memory: &[u16], before: &[u8], after: &[u8]) -> bool {
     let board = map::board(before, b"map");
     let address = fields::word(before, b"address", 0);
-    let answer = meter::wait(board, memory, address, rows::limit_of(before));
+    let answer = meter::wait(board, memory, address, findings::limit_of(before));
     tells_answer(after, answer)
 }

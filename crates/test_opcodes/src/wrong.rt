@@ -16,6 +16,8 @@ fn is_refused(text: &[u8], double: bool) -> bool {
     )
 }
 
+// That a text has at most 16 bytes is asked by the three functions that copy it into a room: a type for it would be made in `run` alone.
+//
 // Whether the text with another byte at a place is refused.
 fn is_refused_with(text: &[u8], at: usize, byte: u8, double: bool) -> bool
     requires { (length text.now ≤ 16) × (at + 1 ≤ length text.now) }

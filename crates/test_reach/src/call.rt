@@ -40,7 +40,7 @@ pub(crate) fn region_is_well(before: &[u8], after: &[u8]) -> bool {
         &memory[..words],
         row::first_of(before),
         row::last_of(before),
-        row::limit_of(before),
+        findings::limit_of(before),
         &clear[..clear_words],
         &set[..set_words],
     );
@@ -60,7 +60,7 @@ pub(crate) fn both_are_well(before: &[u8], after: &[u8]) -> bool {
     let _ = reach::reach(board, lent, &entries[..count], &mut clear, &mut set);
     let first = row::first_of(before);
     let last = row::last_of(before);
-    let limit = row::limit_of(before);
+    let limit = findings::limit_of(before);
     let answer = meter::region_reached(board, lent, first, last, limit, &clear, &set);
     row::is_both(before, after) & findings::are_told(after, answer)
 }

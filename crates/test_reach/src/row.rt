@@ -21,7 +21,7 @@ fn at_most(number: u64, room: usize) -> usize
 pub(crate) fn memory_words(before: &[u8]) -> usize
     ensures { result ≤ 65537 }
 {
-    at_most(fields::number(before, b"size", 65536), MEMORY_ROOM)
+    at_most(words::size_of(before), MEMORY_ROOM)
 }
 
 // .. of the entries.
@@ -43,16 +43,13 @@ pub(crate) fn set_words(before: &[u8], key: &[u8]) -> usize
     at_most(words, SET_ROOM)
 }
 
+// The ends of a case's region, each by its key.
 pub(crate) fn first_of(before: &[u8]) -> u16 {
     fields::word(before, b"first", 0)
 }
 
 pub(crate) fn last_of(before: &[u8]) -> u16 {
     fields::word(before, b"last", 0)
-}
-
-pub(crate) fn limit_of(before: &[u8]) -> u16 {
-    (fields::number(before, b"limit", 0) % 65536) as u16
 }
 
 // Whether the members of a set are left out, or in their form.

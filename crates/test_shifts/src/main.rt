@@ -29,7 +29,12 @@ fn agree_answer(rt: &impl Print, given: Result<Done, Refusal>, expected: u64) ->
 // Makes the step, and compares all that it leaves with what the row says.
 fn step_agrees(rt: &impl Print, row: &[u8], opcode: u16) -> bool {
     let mut memory = [opcode];
-    let stepped = cpu::step(rows::before(row), map::all_ram(), &mut memory, machine::QUIET);
+    let stepped = cpu::step(
+        rows::before(row),
+        map::all_ram(),
+        &mut memory,
+        machine::QUIET,
+    );
     machine::agree(rt, stepped.state, rows::after(row))
         & agree_answer(rt, stepped.answer, fields::number(row, b"cycles", 0))
         & case::agree(rt, "the memory", memory[0] == opcode)

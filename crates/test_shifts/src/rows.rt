@@ -4,10 +4,6 @@ ghost use Rattle.std.specs.Prelude.{◌<◌};
 use cpu::{State, Status};
 use harness::{fields, form, text};
 
-fn is_bits(value: &[u8]) -> bool {
-    (value.len() == 16) & text::all_stand_in(value, b"01")
-}
-
 // The digit of the register that the line names, as in `RLC R0,2`.
 fn register_digit(row: &[u8]) -> u8 {
     text::byte_at(text::behind(fields::value(row, b"text"), b' '), 1)
@@ -25,9 +21,9 @@ fn is_whole(row: &[u8]) -> bool {
     form::fit(
         row,
         b"word=any flags=SZOC result=any left=SZOC cycles=number text=any",
-    ) & is_bits(fields::value(row, b"word"))
+    ) & form::are_bits(fields::value(row, b"word"), 16)
         & fields::has(row, b"flags")
-        & is_bits(fields::value(row, b"result"))
+        & form::are_bits(fields::value(row, b"result"), 16)
         & fields::has(row, b"left")
         & fields::has(row, b"cycles")
         & b"0123".contains(&register_digit(row))
@@ -68,7 +64,8 @@ fn status(row: &[u8], key: &[u8], ready: bool) -> Status {
     }
 }
 
-// Ready is set, so that it shows where the step does not clear it.
+// The state before a row and the one after it have their own keys, R7 and ready mark. Ready is set here, so that it shows where the step does not
+// clear it.
 pub(crate) fn before(row: &[u8]) -> State {
     State {
         registers: registers(row, b"word", 0),

@@ -82,7 +82,7 @@ fn is_well(rt: &impl Print, case: Case, memory: &mut [u16], expected: &mut [u16]
     let Some((call, before, after)) = rows::parts_of(case) else {
         return case::malformed(rt);
     };
-    let size = rows::size_of(before);
+    let size = words::size_of(before) as usize;
     let (Some(memory), Some(expected)) = (memory.get_mut(..size), expected.get_mut(..size)) else {
         return case::malformed(rt);
     };

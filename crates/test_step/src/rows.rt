@@ -11,6 +11,7 @@ pub(crate) enum Call {
     Run,
 }
 
+// The words of this program's cases.
 fn call_of(case: Case) -> Option<Call> {
     match case.kind() {
         b"step" => Some(Call::Step),
@@ -33,7 +34,7 @@ fn is_given(before: &[u8]) -> bool {
         b"r0=word r1=word r2=word r3=word r4=word r5=word r6=word r7=word flags=SZOCID \
           halted=bit ready=bit pending=bit level=bit intrm=bit busrq=bit inputs=word \
           size=number map=map fill=word 0000=list budget=number",
-    ) & words::are_inside(before, size_of(before))
+    ) & words::are_inside(before, words::size_of(before) as usize)
         & (fields::number(before, b"budget", 0) < 4294967296)
 }
 
@@ -43,7 +44,7 @@ fn is_expected(before: &[u8], after: &[u8]) -> bool {
         b"r0=word r1=word r2=word r3=word r4=word r5=word r6=word r7=word flags=SZOCID \
           halted=bit ready=bit pending=bit level=bit 0000=list \
           answer=any steps=number cycles=number number=number",
-    ) & words::are_inside(after, size_of(before))
+    ) & words::are_inside(after, words::size_of(before) as usize)
 }
 
 // A step has no budget, and does not answer how many steps it is.
@@ -64,11 +65,6 @@ pub(crate) fn parts_of<'a>(case: Case<'a>) -> Option<(Call, &'a [u8], &'a [u8])>
     } else {
         None
     }
-}
-
-// How many words the lent memory has.
-pub(crate) fn size_of(before: &[u8]) -> usize {
-    fields::number(before, b"size", 65536) as usize
 }
 
 pub(crate) fn board_of(before: &[u8]) -> Board {

@@ -83,7 +83,7 @@ fn read_bar(line: &mut Line) -> Option<()> {
     line.expect(b'|')
 }
 
-// The machine as a vector begins it: an instruction is due, and nothing else.
+// The machine as a vector begins it: an instruction is due, and nothing else. Its four flags are among the ten marks of a status.
 fn state_of(machine: Machine, double: bool) -> State {
     let flags = machine.flags;
     let registers = machine.registers;
