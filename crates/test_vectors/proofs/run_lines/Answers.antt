@@ -1,5 +1,5 @@
 -- `run_lines`: the number of a line fits, since no text has more rows than bytes.
-use Rattle.std.proofs.Common.{◌≡◌, ◌≤◌, inl, length, ap, arith}
+use Rattle.std.proofs.Common.{◌≡◌, inl, length, ap, arith}
 use Rattle.std.specs.Iterator.Adapters.{enumerate_count}
 use Rattle.harness.specs.Text.{rows_of, rows_left}
 use Rattle.harness.proofs.RowLaws.{rows-few}
