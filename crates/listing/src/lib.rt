@@ -58,7 +58,7 @@ pub fn disassemble(
     })
 }
 
-// The first one, two or three words.
+// The first one, two or three words. (Three and a count beside them, as it is known only once all three were decoded.)
 fn first_words(words: [u16; 3], count: u16) -> Assembly
     ensures { words_in result ≡ first_words words count }
 {

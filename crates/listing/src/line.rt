@@ -9,6 +9,8 @@ ghost use Rattle.listing.specs.Inner.Rows.{template_of, OfRegisters};
 use crate::rows;
 
 // A row of the table with the fields s and d and the operand. A field that the row does not show is 0.
+// (That the row is one of the table's is asked where it is looked up, and is no invariant of the type: the definitions make lines of any number,
+// and each would owe a proof.)
 #[derive(Clone, Copy)]
 pub(crate) struct Line {
     pub row: usize,
@@ -67,7 +69,8 @@ impl Line {
         text[TARGET] = text::hex_digit(self.d);
     }
 
-    // Writes the line and returns its length. Two of three opcodes are of two registers, so these go first.
+    // Writes the line and returns its length. Two of three opcodes are of two registers, so these go first. (By index into the room: of what an
+    // adapter over `iter_mut` has written a proof knows the length alone.)
     pub(crate) fn write(&self, text: &mut [u8]) -> usize
         requires { (self.now.row < 86) × (14 ≤ length text.old) }
         ensures { (result ≡ length (text_of self.now)) × (text.new ≡ text_of self.now ++ drop (length (text_of self.now)) text.old) }
