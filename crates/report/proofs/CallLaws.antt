@@ -26,7 +26,6 @@ use Rattle.meter.specs.declared.Findings.{Findings}
 use Rattle.meter.specs.Answer.{Named, named_in, region_report}
 use Rattle.meter.specs.Meter.{answer_from, named_of, every_address, region_of}
 use Rattle.meter.proofs.RegionLaws.{region-answers}
-use Rattle.report.specs.Regions.{metering_limit}
 use Rattle.report.proofs.LineLaws.{text_short}
 
 -- an all-RAM map is let in with every memory that is short enough
@@ -75,16 +74,16 @@ module _ {board : Board} (given : board ≡ all_ram) (m : List ℕ) (at : ℕ) (
       let k : length text ≤ 14 = text_short (read_of (bus_on all_ram m)) at double in
       record { words_are = ap (λ (y : Told). y.words) told; next_is = ap (λ (y : Told). y.double) told; text_is = t; short = rw s k; text_short = rw t k }
 
-module _ {board : Board} (given : board ≡ all_ram) (m : List ℕ) (first last : ℕ) (x : Result Findings Refusal)
-    (e : region_report x ≡ region_of (bus_on board m) first last metering_limit) (h : length m ≤ 65536) (k : first ≤ last) where
-  region-is : region_report x ≡ answered (named_of every_address (answer_from (bus_on all_ram m) metering_limit) first last)
+module _ {board : Board} (given : board ≡ all_ram) (m : List ℕ) (first last limit : ℕ) (x : Result Findings Refusal)
+    (e : region_report x ≡ region_of (bus_on board m) first last limit) (h : length m ≤ 65536) (k : first ≤ last) (l : limit ≤ 4096) where
+  region-is : region_report x ≡ answered (named_of every_address (answer_from (bus_on all_ram m) limit) first last)
   region-is =
       e
-      ∙ ap (λ (b : Board). region_of (bus_on b m) first last metering_limit) given
-      ∙ region-answers (bus_on all_ram m) first last metering_limit (all-ram-in m h) k (lit≤ tt)
+      ∙ ap (λ (b : Board). region_of (bus_on b m) first last limit) given
+      ∙ region-answers (bus_on all_ram m) first last limit (all-ram-in m h) k l
 
   pub surely-metered : IsOk x
   surely-metered = is_metered x region-is
 
-  pub metered-named : {f : Findings} → x ≡ Ok f → named_in f ≡ named_of every_address (answer_from (bus_on all_ram m) metering_limit) first last
+  pub metered-named : {f : Findings} → x ≡ Ok f → named_in f ≡ named_of every_address (answer_from (bus_on all_ram m) limit) first last
   metered-named g = same_answer (ap region_report (sym g) ∙ region-is)
