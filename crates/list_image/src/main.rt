@@ -4,6 +4,7 @@
 use report::Program;
 use std::process::ExitCode;
 
+// The metering program differs in this one name, and each program has a main of its own.
 fn main(rt: HostRuntime) -> ExitCode {
     report::run(&rt, Program::ListImage)
 }
