@@ -13,7 +13,7 @@ use Rattle.records.specs.Records.{Record}
 use Rattle.image.specs.Format.{record_bytes}
 use Rattle.listing.specs.Disassemble.{entry_at, text_at}
 use Rattle.listing.proofs.Bounds.{lines-bounded}
-use Rattle.meter.specs.Answer.{Longest, no_wait, longest, Lowest, no_over, over_at, Named}
+use Rattle.meter.specs.Answer.{Named}
 use Rattle.meter.specs.Meter.{answer_from, named_of, every_address}
 use Rattle.text.specs.Text.{hex_of}
 use Rattle.report.specs.declared.Program.{Program}
@@ -21,16 +21,13 @@ use Rattle.report.specs.declared.Program.TheVariants.{ListImage, MeterImage}
 use Rattle.report.specs.Text.{space, line_text, lines_text}
 use Rattle.report.specs.Instructions.{instruction_line, lines_from, instruction_lines}
 use Rattle.report.specs.Regions.{metering_limit, wait_text, over_text, named_line, region_line}
+use Rattle.report.proofs.LengthLaws.{hex_length, wait_short, over_short}
 use Rattle.report.specs.Program.{record_lines, records_lines, end_number}
 use Rattle.report.specs.Laws.{EveryInstructionListed}
 
 -- every instruction has a word
 pub words-some : (read : ℕ → ℕ) (at : ℕ) (double : Bool) → 1 ≤ (entry_at read at double).words
 words-some read at double = (lines-bounded read at double).words_least
-
-hex-length : (w : ℕ) → length (hex_of w) ≡ 4
-unfolding hex_of
-hex-length w = refl
 
 -- the pieces of a line, as they are put
 pub instruction-pieces : (read : ℕ → ℕ) (at : ℕ) (double : Bool)
@@ -50,7 +47,7 @@ text_short read at double = (lines-bounded read at double).text_most
 pub line-short : (read : ℕ → ℕ) (at : ℕ) (double : Bool) → length (line_text (instruction_line read at double)) ≤ 20
 unfolding instruction_line
 line-short read at double =
-    simp (length-append, hex-length at) (omega (arith, text_short read at double))
+    simp (length-append, hex_length at) (omega (arith, text_short read at double))
 
 -- the lines from an address on, by the rule of their definition
 pub lines-on : (n : ℕ) (read : ℕ → ℕ) (end at : ℕ) (double : Bool) → 0 < n → at < end → lines_from n read end at double
@@ -90,18 +87,10 @@ lines-few (suc n) read end at double =
     (omega (arith, lines-few n read end (at + e.words) e.double))
     (omega arith)
 
-wait-short : (l : Longest) → length (wait_text l) ≤ 17
-wait-short no_wait = lit≤ tt
-wait-short (longest cycles start) = simp (length-append, hex-length) (lit≤ tt)
-
-over-short : (o : Lowest) → length (over_text o) ≤ 9
-over-short no_over = lit≤ tt
-over-short (over_at start) = simp hex-length (lit≤ tt)
-
 named-short : (first last : ℕ) (named : Named) → length (line_text (named_line first last named)) ≤ 38
 unfolding named_line
 named-short first last named =
-    simp (length-append, hex-length) (omega (arith, wait-short named.longest_wait, over-short named.lowest_over))
+    simp (length-append, hex_length) (omega (arith, wait_short named.longest_wait, over_short named.lowest_over))
 
 -- ten bytes of text suffice for each byte of a record in the file
 pub record-size : (program : Program) (b : Bus) (a c : ℕ) → 0 < c → length (lines_text (record_lines program b a c)) ≤ record_bytes c * 10

@@ -1,40 +1,23 @@
 -- Pieces put one behind the other are one piece.
-use Prim.Native.Nat.{ℕ, ◌+◌, ◌<◌, ◌≤◌}
+use Prim.Native.Nat.{ℕ, ◌+◌, ◌-◌, ◌≤◌}
 use mathlib.Core.Path.{◌≡◌, refl, sym, ap, ◌∙◌}
 use mathlib.Core.List.{List, [], ◌∷◌, ◌++◌, append_assoc, append-nil}
 use native.Mathlib.Omega.{arith}
-use native.Mathlib.Numerals.{add-one}
-use lib.ListN.{length, get_or, take, set, length-take, length-append}
-use lib.Seq.{take-suc, sets, length-sets, sets-eq, length-take-le}
+use borrow.Rule.Slice.PartMut.{put_mid}
+use lib.ListN.{length, length-append, take, drop}
+use lib.Seq.{sets, length-sets, sets-eq, length-take-le, drop-drop, take-append_seam}
 use Rattle.word.proofs.SetsLaws.{sets-split}
-use Rattle.refusal.specs.Report.{Report, is_refused}
+use Rattle.refusal.specs.Report.{is_refused}
 use Rattle.memory.specs.Map.{all_ram}
 use Rattle.memory.specs.Bus.{bus_on}
-use Rattle.report.specs.declared.Program.{Program}
-use Rattle.report.specs.declared.Printed.{Printed}
+use Rattle.text.specs.Text.{line_feed}
 use Rattle.report.specs.declared.page.Page.{Page}
 use Rattle.report.specs.Text.{line_text, lines_text}
-use Rattle.report.specs.Reading.{ReadImage}
-use Rattle.report.specs.Program.{reading_text, text_put, printing, Within}
-use Rattle.report.specs.Inner.Page.{Puts, Prints, Adds}
-
--- The first i bytes of a piece, laid from a place of the room on.
-pub record Laying (room : List ℕ) (at : ℕ) (bytes after : List ℕ) (i : ℕ) : Type 0 where
-  pub within : i ≤ length bytes
-  pub laid : after ≡ sets room at (take i bytes)
-
-pub laying : (room : List ℕ) (at : ℕ) (bytes : List ℕ) → Laying room at bytes room 0
-laying room at bytes = record { within = omega arith; laid = refl }
-
-pub laying-length : {room bytes after : List ℕ} {at i : ℕ} → Laying room at bytes after i → length after ≡ length room
-laying-length {room} {bytes} {after} {at} {i} k = ap length k.laid ∙ length-sets room at (take i bytes)
-
-pub laying-on : {room bytes after : List ℕ} {at i b : ℕ} → Laying room at bytes after i → i < length bytes → b ≡ get_or bytes i 0
-    → Laying room at bytes (set after (at + i) b) (i + 1)
-laying-on {room} {bytes} {after} {at} {i} {b} k h e =
-    let t = length-take i bytes in
-    let n : length (take i bytes) ≡ i = omega arith in
-    record { within = omega arith; laid = rw (add-one, take-suc bytes i 0, sets-split room at (take i bytes) (get_or bytes i 0 ∷ []), n, k.laid, e) }
+use Rattle.report.specs.declared.Program.{Program}
+use Rattle.report.specs.declared.Printed.{Printed}
+use Rattle.report.specs.Reading.{reading_of}
+use Rattle.report.specs.Program.{report_text, Printing, printing_of, printing, Within}
+use Rattle.report.specs.Inner.Page.{Puts, Stays, Writes, Adds}
 
 pub puts_none : (room : List ℕ) (at : ℕ) → at ≤ length room → Puts room at [] room at
 puts_none room at h = record { within = omega arith; place = omega arith; room = refl }
@@ -54,20 +37,23 @@ puts_then {r₀} {r₁} {r₂} {xs} {ys} {a} {b} {c} p q =
 pub puts-as : {r₀ r₁ xs ys : List ℕ} {a b : ℕ} → xs ≡ ys → Puts r₀ a xs r₁ b → Puts r₀ a ys r₁ b
 puts-as e p = rw e at p
 
--- a text put at the front of the room is printed, and lies there
-module _ {before : List ℕ} {program : Program} {reading : Report ReadImage} {after : List ℕ} {printed : Printed}
-    (p : Prints before program reading after printed) where
-  pub prints-text : printing printed after ≡ text_put (is_refused reading) (reading_text (bus_on all_ram) program reading) before
-  prints-text =
-      let text = reading_text (bus_on all_ram) program reading in
-      let e : printed.size ≡ length text = omega (arith, p.puts.place) in
-      let z : 0 + length text ≡ length text = omega arith in
-      rw (e, p.refused, p.puts.room, sets-eq text before 0 p.puts.within, z)
+-- a page is written to piece by piece
+pub stays_then : {p q r : Page} → Stays p q → Stays q r → Stays p r
+stays_then a b = record { same_room = b.same_room ∙ a.same_room; size = b.size ∙ a.size }
 
-  pub prints-within : Within printed.size after
-  prints-within =
-      let h : printed.size ≤ length after = omega (arith, p.puts.place, p.puts.within, puts-length p.puts) in
-      (h, sym (length-take-le printed.size after h))
+pub writes_then : {p q r : Page} {xs ys : List ℕ} → Writes p xs q → Writes q ys r → Writes p (xs ++ ys) r
+writes_then a b =
+    record { stays = stays_then a.stays b.stays; puts = puts_then a.puts b.puts; lines = b.lines ∙ a.lines }
+
+-- the same piece by another name
+pub writes_as : {p q : Page} {xs ys : List ℕ} → xs ≡ ys → Writes p xs q → Writes p ys q
+writes_as e w = rw e at w
+
+-- bytes written over a part of a room are stored one behind the other
+pub put_mid-sets : (at : ℕ) (bytes room : List ℕ) → at + length bytes ≤ length room → put_mid at (at + length bytes - at) room bytes ≡ sets room at bytes
+put_mid-sets at bytes room h =
+    let e : at + length bytes - at ≡ length bytes = omega arith in
+    rw (e, sets-eq bytes room at h, drop-drop (length bytes) at room, append_assoc)
 
 lines-append : (ls ms : List (List ℕ)) → lines_text (ls ++ ms) ≡ lines_text ls ++ lines_text ms
 lines-append [] ms = refl
@@ -77,17 +63,58 @@ length_both : (ls ms : List (List ℕ)) → length (ls ++ ms) ≡ length ls + le
 length_both [] ms = omega arith
 length_both (l ∷ ls) ms = omega (arith, length_both ls ms)
 
-pub adds_none : (room : List ℕ) (page : Page) → page.at ≤ length room → Adds room page [] room page
-adds_none room page h = record { puts = puts_none room page.at h; count = omega arith }
+pub adds_none : (page : Page) → page.at ≤ length page.room.now → Adds page [] page
+adds_none page h =
+    record { stays = record { same_room = refl; size = refl }; puts = puts_none page.room.now page.at h; count = omega arith }
 
-pub adds_then : {r₀ r₁ r₂ : List ℕ} {p q r : Page} {ls ms : List (List ℕ)} → Adds r₀ p ls r₁ q → Adds r₁ q ms r₂ r → Adds r₀ p (ls ++ ms) r₂ r
+pub adds_then : {p q r : Page} {ls ms : List (List ℕ)} → Adds p ls q → Adds q ms r → Adds p (ls ++ ms) r
 adds_then {ls = ls} {ms = ms} a b =
     record {
+      stays = stays_then a.stays b.stays;
       puts = puts-as (sym (lines-append ls ms)) (puts_then a.puts b.puts);
       count = omega (arith, a.count, b.count, length_both ls ms);
     }
 
--- one line more
-pub adds-line : {r₀ r₁ line : List ℕ} {page : Page} {to lines : ℕ} → Puts r₀ page.at (line_text line) r₁ to → lines ≡ page.lines + 1
-    → Adds r₀ page (line ∷ []) r₁ (record { at = to; lines = lines })
-adds-line {line = line} p e = record { puts = puts-as (sym (append-nil (line_text line))) p; count = e }
+-- a line that is written and counted
+pub adds-line : {p q : Page} {line : List ℕ} → Writes p (line_text line) q → Adds p (line ∷ []) (record q { lines = q.lines + 1 })
+adds-line {line = line} w =
+    record { stays = record { same_room = w.stays.same_room; size = w.stays.size }; puts = puts-as (sym (append-nil (line_text line))) w.puts; count = omega (arith, w.lines) }
+
+-- a line has a byte or more
+lines-shorter : (ls : List (List ℕ)) → length ls ≤ length (lines_text ls)
+lines-shorter [] = omega arith
+lines-shorter (l ∷ ls) =
+    omega (arith, lines-shorter ls, length-append (line_text l) (lines_text ls), length-append l (line_feed ∷ []))
+
+pub adds-few : {p q : Page} {ls : List (List ℕ)} → Adds p ls q → p.lines ≤ p.at → q.lines ≤ q.at
+adds-few {ls = ls} a h = omega (arith, lines-shorter ls, a.count, a.puts.place)
+
+-- a text put at the front of the room is printed, and lies there
+module _ {before after : List ℕ} (program : Program) (input : List ℕ) {printed : Printed}
+    (p : Puts before 0 (report_text (bus_on all_ram) program input) after printed.size) (r : printed.refused ≡ is_refused (reading_of input)) where
+  pub prints-text : printing printed after ≡ printing_of program input before
+  unfolding printing_of
+  prints-text =
+      let text = report_text (bus_on all_ram) program input in
+      let e : printed.size ≡ length text = omega (arith, p.place) in
+      let z : 0 + length text ≡ length text = omega arith in
+      rw (e, r, p.room, sets-eq text before 0 p.within, z)
+
+  pub prints-within : Within printed.size after
+  prints-within =
+      let h : printed.size ≤ length after = omega (arith, p.place, p.within, puts-length p) in
+      (h, sym (length-take-le printed.size after h))
+
+-- what is printed says the text, and whether the input is refused
+module _ (before : List ℕ) {after : List ℕ} (program : Program) (input : List ℕ) {printed : Printed} (e : printing printed after ≡ printing_of program input before) where
+  pub printed-refused : printed.refused ≡ is_refused (reading_of input)
+  unfolding printing_of
+  printed-refused = ap (λ (p : Printing). p.refusal) e
+
+  pub printed-text : take printed.size after ≡ report_text (bus_on all_ram) program input
+  unfolding printing_of
+  printed-text =
+      let text = report_text (bus_on all_ram) program input in
+      let s : printed.size ≡ length text = ap (λ (p : Printing). p.size) e in
+      let r : after ≡ text ++ drop (length text) before = ap (λ (p : Printing). p.room) e in
+      rw (s, r) (take-append_seam text (drop (length text) before))

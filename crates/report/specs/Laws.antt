@@ -9,8 +9,11 @@ use Rattle.report.specs.Reading.{input_limit, read_room, input_of, reading_of}
 use Rattle.report.specs.Instructions.{lines_from}
 use Rattle.report.specs.Program.{report_text}
 
--- "9: .. before all, over-long program input". Whatever was read, a count above the limit is refused: that of a full room, which is one
--- byte more, and one that no room has.
+-- "9: .. before all, over-long program input"
+abbrev pub LongRefused : Type 0
+LongRefused = (input : List ℕ) → input_limit < length input → reading_of input ≡ refused 9
+
+-- Whatever was read into a room of one byte more, a count above the limit is refused: that of a full room, and one that no room has.
 abbrev pub OverLongRefused : Type 0
 OverLongRefused =
     (room : List ℕ) (count : ℕ) →

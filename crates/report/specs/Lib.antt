@@ -5,6 +5,7 @@ pub mod Reading
 pub mod Instructions
 pub mod Regions
 pub mod Program
+pub mod Streams
 pub mod Laws
 pub mod Metering
 pub mod Inner

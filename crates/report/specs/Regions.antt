@@ -20,9 +20,6 @@ abbrev pub over_text : Lowest → List ℕ
 over_text no_over = codes "OVER NONE"
 over_text (over_at start) = codes "OVER " ++ hex_of start
 
-abbrev pub named_by : Longest → Lowest → Named
-named_by l o = record { longest_wait = l; lowest_over = o }
-
 -- "`0010 0010 WAIT 0006 AT 0010 OVER NONE`"
 unfoldable pub named_line : ℕ → ℕ → Named → List ℕ
 named_line first last named =

@@ -1,19 +1,22 @@
 // The texts that the listing program and the metering program print of an image, as functions of the input's bytes.
 #![tactic(auto)]
 
-ghost use Rattle.std.specs.Prelude.{◌≡◌, ◌≤◌, length};
-ghost use Rattle.image.specs.Load.{load_of};
-ghost use Rattle.report.specs.Reading.{board_number, board_words, input_limit, read_room, input_of, reading_after, reading_of};
+ghost use Rattle.std.specs.Prelude.{◌≡◌, OnOk};
+ghost use Rattle.report.specs.Reading.{zero_words, records_of, load_read, reading_of};
 ghost use Rattle.report.specs.Program.{printing_of, printing, Within};
-ghost use Rattle.report.specs.Inner.Page.{text_room, Prints};
+ghost use Rattle.report.specs.Inner.Page.{Ready};
+ghost use Rattle.records.specs.Loading.{load_reported};
 
-use records::LoadAnswer;
+use crate::page::Page;
 use refusal::Refusal;
 
 mod file;
 mod instructions;
 mod page;
 mod regions;
+mod streams;
+
+pub use streams::{Transcribed, run, transcribe};
 
 // Which of the two programs.
 #[derive(Clone, Copy)]
@@ -22,7 +25,8 @@ pub enum Program {
     MeterImage,
 }
 
-// What was printed: the size of the text, and whether it says that the input is refused.
+// What was printed: the size of the text, and whether it says that the input is refused. No `Result`, since a refusal has a text too, and no
+// `&[u8]` in place of the size, since no clause could then say what the room holds, which the text would be lent from.
 #[derive(Clone, Copy)]
 pub struct Printed {
     pub size: usize,
@@ -35,63 +39,56 @@ pub(crate) const BOARD: u16 = 2;
 // The words of its memory, which are 0 before the load.
 const MEMORY_WORDS: usize = 32768;
 
+pub(crate) type Memory = [u16; MEMORY_WORDS];
+
 // An input that is longer is refused before all.
 const INPUT_LIMIT: usize = 65536;
 
 // The room that a program reads its input into: one byte more, so as to see that there is one.
 pub const READ_ROOM: usize = INPUT_LIMIT + 1;
 
+const _: () = prove!(INPUT_LIMIT < READ_ROOM);
+
 // Room for every text: at most ten bytes of text for each byte of input, and the first and the last line.
 pub const TEXT_ROOM: usize = INPUT_LIMIT * 10 + 20;
 
-// What a program says on standard error where its text could not be written, and where that text says that the image is refused.
-pub const NOT_WRITTEN: [u8; 30] = *b"the text could not be written\n";
-
-pub const IMAGE_REFUSED: [u8; 22] = *b"the image was refused\n";
-
-// Loads the input into a memory of zero words, and puts what comes of it into the room.
-fn print_loaded(program: Program, input: &[u8], memory: &mut [u16], room: &mut [u8]) -> Printed
-    requires { (length memory.old ≡ board_words) × (length input.now ≤ input_limit) × (text_room ≤ length room.old) }
-    ensures { Prints room.old program (reading_after input.now (load_of board_number memory.old input.now)) room.new result }
+// Loads an input that is not over-long.
+fn read(input: &[u8], memory: &mut Memory) -> Result<usize, Refusal>
+    requires { memory.old ≡ zero_words }
+    ensures reading { load_read (records_of input.now) memory.new (load_reported result) ≡ reading_of input.now }
+    ensures ready { OnOk result (Ready input.now) }
 {
-    let answer = image::load(BOARD, memory, input);
-    match answer {
-        LoadAnswer::Refused(refusal) => Printed {
-            size: page::put_refusal(room, refusal),
-            refused: true,
-        },
-        LoadAnswer::Loaded(_) => Printed {
-            size: file::put_report(program, input, memory, room),
-            refused: false,
-        },
+    if INPUT_LIMIT < input.len() {
+        return Err(Refusal::MalformedImage);
     }
+    image::load(BOARD, memory, input)
 }
 
-// An input that is not over-long is loaded.
-fn print_input(program: Program, input: &[u8], count: usize, room: &mut [u8]) -> Printed
-    requires { (length input.now ≡ read_room) × (text_room ≤ length room.old) }
-    ensures { Prints room.old program (reading_of (input_of input.now count)) room.new result }
-{
-    if INPUT_LIMIT < count {
-        return Printed {
-            size: page::put_refusal(room, Refusal::MalformedImage),
-            refused: true,
-        };
-    }
-    let mut memory = [0u16; MEMORY_WORDS];
-    print_loaded(program, &input[..count], &mut memory, room)
-}
-
-// Puts the text of an input at the front of the room. The input is so many bytes at the front of the room that it was read into; in a
-// smaller room than this nobody would see that it is over-long. A count above the room is over-long too.
-pub fn print(
-    program: Program,
-    input: &[u8; READ_ROOM],
-    count: usize,
-    room: &mut [u8; TEXT_ROOM],
-) -> Printed
-    ensures room_after { printing result room.new ≡ printing_of program (input_of input.now count) room.old }
+// Puts the text of an input at the front of the room.
+pub fn print(program: Program, input: &[u8], room: &mut [u8; TEXT_ROOM]) -> Printed
+    ensures room_after { printing result room.new ≡ printing_of program input.now room.old }
     ensures within { Within result.size room.new }
 {
-    print_input(program, input, count, room)
+    let mut memory = [0u16; MEMORY_WORDS];
+    let mut page = Page {
+        room,
+        at: 0,
+        lines: 0,
+    };
+    match read(input, &mut memory) {
+        Ok(_) => {
+            file::push_report(&mut page, program, input, &memory);
+            Printed {
+                size: page.at,
+                refused: false,
+            }
+        }
+        Err(refusal) => {
+            page.push_refusal(refusal);
+            Printed {
+                size: page.at,
+                refused: true,
+            }
+        }
+    }
 }

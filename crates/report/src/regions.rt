@@ -1,87 +1,75 @@
 // The metering's lines: one for each record, as a region.
-ghost use Rattle.std.specs.Prelude.{◌+◌, ◌<◌, ◌≤◌, length};
+ghost use Rattle.std.specs.Prelude.{◌+◌, ◌<◌, ◌≤◌};
 ghost use Rattle.memory.specs.Map.{all_ram};
 ghost use Rattle.memory.specs.Bus.{bus_on};
-ghost use Rattle.meter.specs.Answer.{longest_of, lowest_of};
+ghost use Rattle.meter.specs.Answer.{longest_of, lowest_of, named_in};
 ghost use Rattle.report.specs.Text.{line_text};
-ghost use Rattle.report.specs.Regions.{wait_text, over_text, named_by, named_line, region_lines};
-ghost use Rattle.report.specs.Inner.Page.{Puts, Adds};
+ghost use Rattle.report.specs.Reading.{board_words};
+ghost use Rattle.report.specs.Regions.{wait_text, over_text, named_line, region_lines};
+ghost use Rattle.report.specs.Inner.Page.{HasRoom, Writes, Adds};
 
-use crate::page;
 use crate::page::Page;
+use crate::{Memory, page};
+use image::FirstRecord;
 use memory::map;
-use meter::{LongestWait, LowestOver, RegionAnswer};
+use meter::{Findings, LongestWait};
 
 // The limit that every record is metered at.
 const LIMIT: u16 = 57;
 
-fn put_wait(room: &mut [u8], at: usize, longest: LongestWait) -> usize
-    requires { at + 17 ≤ length room.old }
-    ensures { Puts room.old at (wait_text (longest_of longest)) room.new result × (result ≤ at + 17) }
+#[tactic(auto, using(crate::proofs::LengthLaws::hex_length))]
+fn push_wait(page: &mut Page, longest: Option<LongestWait>)
+    requires { HasRoom page.old 17 }
+    ensures { Writes page.old (wait_text (longest_of longest)) page.new }
 {
     match longest {
-        LongestWait::NoWait => page::put_bytes(room, at, b"WAIT NONE"),
-        LongestWait::Cycles { cycles, start } => {
-            let wait = page::put_bytes(room, at, b"WAIT ");
-            let behind = page::put_hex(room, wait, cycles);
-            let place = page::put_bytes(room, behind, b" AT ");
-            page::put_hex(room, place, start)
+        None => page.push_bytes(b"WAIT NONE"),
+        Some(LongestWait { cycles, start }) => {
+            page.push_bytes(b"WAIT ");
+            page.push_hex(cycles);
+            page.push_bytes(b" AT ");
+            page.push_hex(start);
         }
     }
 }
 
-fn put_over(room: &mut [u8], at: usize, lowest: LowestOver) -> usize
-    requires { at + 9 ≤ length room.old }
-    ensures { Puts room.old at (over_text (lowest_of lowest)) room.new result × (result ≤ at + 9) }
+#[tactic(auto, using(crate::proofs::LengthLaws::hex_length, crate::proofs::PageLaws::writes_then))]
+fn push_over(page: &mut Page, lowest: Option<u16>)
+    requires { HasRoom page.old 9 }
+    ensures { Writes page.old (over_text (lowest_of lowest)) page.new }
 {
     match lowest {
-        LowestOver::NoOver => page::put_bytes(room, at, b"OVER NONE"),
-        LowestOver::At { start } => {
-            let over = page::put_bytes(room, at, b"OVER ");
-            page::put_hex(room, over, start)
+        None => page.push_bytes(b"OVER NONE"),
+        Some(start) => {
+            page.push_bytes(b"OVER ");
+            page.push_hex(start);
         }
     }
 }
 
 // First and last address, the longest wait and its start, and the lowest start over the limit.
-fn put_named(
-    room: &mut [u8],
-    at: usize,
-    first: u16,
-    last: u16,
-    longest: LongestWait,
-    lowest: LowestOver,
-) -> usize
-    requires { at + 38 ≤ length room.old }
-    ensures { Puts room.old at (line_text (named_line first last (named_by (longest_of longest) (lowest_of lowest)))) room.new result }
+#[tactic(auto, using(crate::proofs::LengthLaws::field_length, crate::proofs::LengthLaws::wait_short, crate::proofs::LengthLaws::over_short))]
+fn push_findings(page: &mut Page, first: u16, last: u16, findings: Findings)
+    requires { HasRoom page.old 38 }
+    ensures { Writes page.old (line_text (named_line first last (named_in findings))) page.new }
 {
-    let second = page::put_field(room, at, first);
-    let wait = page::put_field(room, second, last);
-    let behind = put_wait(room, wait, longest);
-    let over = page::put_byte(room, behind, page::SPACE);
-    let end = put_over(room, over, lowest);
-    page::end_line(room, end)
+    page.push_field(first);
+    page.push_field(last);
+    push_wait(page, findings.longest);
+    page.push(page::SPACE);
+    push_over(page, findings.lowest);
+    page.end_line();
 }
 
 // The line of a record.
-pub(crate) fn put_line(
-    memory: &[u16],
-    address: u16,
-    count: u16,
-    room: &mut [u8],
-    page: Page,
-) -> Page
-    requires { (length memory.now ≤ 65536) × (0 < count) × (address + count ≤ 65536) × (page.at + 38 ≤ length room.old) × (page.lines ≤ 65536) }
-    ensures { Adds room.old page (region_lines (bus_on all_ram memory.now) address count) room.new result }
+pub(crate) fn push_line(page: &mut Page, memory: &Memory, found: FirstRecord)
+    requires { (0 < found.count) × (found.address + found.count ≤ board_words) × HasRoom page.old 38 }
+    ensures { Adds page.old (region_lines (bus_on all_ram memory.now) found.address found.count) page.new }
 {
-    let last = address + (count - 1);
-    let answer = meter::region(map::all_ram(), memory, address, last, LIMIT);
-    match answer {
-        RegionAnswer::Found { longest, lowest } => Page {
-            at: put_named(room, page.at, address, last, longest, lowest),
-            lines: page.lines + 1,
-        },
-        // neither the memory nor the region nor the limit is refused
-        RegionAnswer::Refused(_) => page,
-    }
+    let first = found.address;
+    let last = first + (found.count - 1);
+    // neither the memory nor the region nor the limit is refused
+    let findings = meter::region(map::all_ram(), memory, first, last, LIMIT).unwrap();
+    push_findings(page, first, last, findings);
+    page.lines += 1;
 }

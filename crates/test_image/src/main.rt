@@ -12,7 +12,7 @@ use harness::cases::{self, Case};
 
 const INPUT_ROOM: usize = 262144;
 
-// The rows below the first are to begin with their names.
+// The rows below the first are to begin with their names. The calls are those of this program, so that no other shares this function.
 fn is_well(case: Case) -> bool {
     let (Some(before), Some(after)) = (case.before(), case.after()) else {
         return false;

@@ -26,6 +26,7 @@ impl Call {
     }
 }
 
+// A field, with the default that the head of `stdin` gives it here.
 fn words_of(before: &[u8]) -> usize {
     fields::number(before, b"size", 65536) as usize
 }

@@ -50,7 +50,8 @@ pub(crate) fn bin_of(fields: &[u8]) -> [u8; BIN_ROOM] {
     bin
 }
 
-// .. with the text of a row, its signs replaced by what they stand for.
+// .. with the text of a row, its signs replaced by what they stand for. Not one function with the one above: they differ in the room and in how a
+// value is put, which is all that they say.
 pub(crate) fn cfg_of(fields: &[u8]) -> [u8; CFG_ROOM] {
     let mut cfg = [BLANK; CFG_ROOM];
     put_text(&mut cfg, fields::value(fields, b"text"));

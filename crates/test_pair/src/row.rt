@@ -14,6 +14,7 @@ pub(crate) struct Lent {
 // A written text is `[mapping]` and one line, each with its line feed.
 const WRITTEN_TEXT: usize = 10 + 22;
 
+// A field, with the default that the head of `stdin` gives it here; so are those below, which differ in just this.
 fn words_of(before: &[u8]) -> usize {
     fields::number(before, b"size", 65536) as usize
 }

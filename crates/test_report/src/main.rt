@@ -4,24 +4,21 @@
 
 mod build;
 
-use harness::{fields, input, text};
+use harness::text::Rows;
+use harness::{fields, text};
 use report::Program;
 
 const CASES_ROOM: usize = 65536;
 
 // The text of a program, which says whether the input is refused as its answer does.
-fn show(rt: &impl Print, text: &[u8], refused: bool) {
-    let _ = rt.write_all(text);
-    if refused != text::starts_with(text, b"REFUSED ") {
-        let _ = rt.write_all(b"refused otherwise\n");
-    }
-}
-
-fn print(rt: &impl Print, program: Program, input: &[u8; report::READ_ROOM], count: usize) {
+fn show(rt: &impl Print, program: Program, image: &[u8]) {
     let mut room = [0u8; report::TEXT_ROOM];
-    let printed = report::print(program, input, count, &mut room);
-    let size = printed.size;
-    show(rt, &room[..size], printed.refused)
+    let printed = report::print(program, image, &mut room);
+    let text = &room[..printed.size];
+    let _ = rt.write_all(text);
+    if printed.refused != text.starts_with(b"REFUSED ") {
+        let _ = rt.println("refused otherwise");
+    }
 }
 
 // A case is two rows: its name, and its input.
@@ -29,40 +26,36 @@ fn run_case(rt: &impl Print, first: &[u8], second: &[u8]) {
     let mut room = [0u8; report::READ_ROOM];
     let before = fields::body(second);
     let count = build::put_input(&mut room, before);
-    let _ = rt.write_all(b"# ");
+    let image = &room[..count];
+    let _ = rt.print("# ");
     let _ = rt.write_all(fields::body(first));
-    let _ = rt.write_all(b"\n");
+    let _ = rt.print("\n");
     if fields::is_kind(first, b"report")
         & fields::is_kind(second, b"before")
         & build::is_input(before)
     {
-        print(rt, Program::ListImage, &room, count);
-        print(rt, Program::MeterImage, &room, count)
+        show(rt, Program::ListImage, image);
+        show(rt, Program::MeterImage, image)
     } else {
-        let _ = rt.write_all(b"malformed\n");
+        let _ = rt.println("malformed");
     }
 }
 
 // A row that is no remark is the first of a case's two rows, so that no row is passed over.
 fn run_cases(rt: &impl Print, cases: &[u8]) {
-    let mut rest = cases;
-    while rest.len() > 0 {
-        let first = text::first_row(rest);
-        let second = text::after_first_row(rest);
-        if text::is_remark(first) {
-            rest = second;
-        } else {
-            run_case(rt, first, text::first_row(second));
-            rest = text::after_first_row(second);
+    let mut rows = Rows::of(cases);
+    while let Some(first) = rows.next() {
+        if !text::is_remark(first) {
+            run_case(rt, first, rows.next().unwrap_or_default());
         }
     }
 }
 
 fn main(rt: HostRuntime) {
-    let mut cases = [0u8; CASES_ROOM];
-    let length = input::read_full(&mut rt.stdin(), &mut cases);
-    run_cases(&rt, &cases[..length]);
-    if length == CASES_ROOM {
-        let _ = rt.write_all(b"the cases fill their room, and may be cut\n");
+    let mut room = [0u8; CASES_ROOM];
+    let cases = input::read_full(&mut rt.stdin(), &mut room);
+    run_cases(&rt, cases);
+    if cases.len() == CASES_ROOM {
+        let _ = rt.println("the cases fill their room, and may be cut");
     }
 }

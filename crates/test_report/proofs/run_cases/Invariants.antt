@@ -1,5 +1,0 @@
-use lib.ListN.{length}
-use Rattle.test_report.proofs.run_cases.Given as goal
-
-abbrev pub decreases-loop-rest : goal.decreases-loop-rest
-decreases-loop-rest g l = length l.rest
