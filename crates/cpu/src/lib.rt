@@ -186,7 +186,8 @@ fn instruction(
 }
 
 // One step on a memory that was let in, in document 01's order. A run asks once and makes all its steps by this. It reads with a range at hand, which
-// changes no word where the range is one of the board's.
+// changes no word where the range is one of the board's. (State, board, words and lines go along as the C calls hand them over, and a `match` on the
+// plan is the order itself.)
 pub fn admitted_step(
     state: State,
     board: Board,

@@ -76,7 +76,8 @@ fn copied(state: State) -> State
 }
 
 // Steps on an admitted memory while the sum of their cycles is below the budget and none is refused. Each step gets the range at hand that the last one
-// left. In the library this is the only caller of the processor's step, so that the compiler makes one function of both.
+// left. In the library this is the only caller of the processor's step, so that the compiler makes one function of both. (State, board, words and lines
+// go along as the C calls hand them over.)
 fn make_steps(state: State, board: Board, mem: &mut [u16], lines: Lines, budget: u32) -> Stop
     requires { budget ≤ 1000000 }
     ensures ends { loop_end board result mem.new ≡ loop_of (machine_of state) (bus_on board mem.old) lines budget }
