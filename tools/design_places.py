@@ -22,7 +22,7 @@ def items(kind):
         for i, row in enumerate(rows):
             start = starts.match(row)
             if start and start.group(2) == kind:
-                ends = (j for j in range(i, len(rows)) if rows[j] == start.group(1) + "}" or j == i and row[-1] in ";}")
+                ends = (j for j in range(i, len(rows)) if rows[j] in (start.group(1) + "}", start.group(1) + "{}") or j == i and row[-1] in ";}")
                 found.append((file, start.group(3), "\n".join(rows[i:next(ends) + 1])))
     return found
 
