@@ -63,7 +63,7 @@ pub extern "C" fn cp1610_step(state: &mut [u16], mem: &mut [u16], map: &[u16], l
             words::pack(state, stepped.state);
             answers::step_word(done)
         }
-        Err(refusal) => answers::refused(refusal),
+        Err(why) => answers::refused(why),
     }
 }
 
