@@ -4,7 +4,6 @@ use mathlib.Core.Path.{◌≡◌, ap, ap₂}
 use native.Mathlib.Omega.{arith}
 use Rattle.refusal.proofs.ReportLaws.{reported-apart}
 use Rattle.cpu.specs.declared.Kind.{Kind}
-use Rattle.cpu.specs.declared.Done.{Done}
 use Rattle.cpu.specs.Answer.{StepDone, kind_number, StepsApart}
 
 same-kind : (a b : Kind) → kind_number a ≡ kind_number b → a ≡ b

@@ -11,11 +11,13 @@ ghost use Rattle.cpu.specs.Answer.{step_report, cycles_of, meets_unspecified};
 ghost use Rattle.cpu.specs.Step.{decoded_action, decoded, admitted_action, made, step_of, admitted_step, outcome, outcome_near, near_after};
 ghost use Rattle.cpu.specs.Inner.Parts.{machine_in, is_unspecified_form, stepped_of};
 
+use crate::begun::Begun;
 use memory::map::{Board, Range};
 use memory::near;
 use memory::near::View;
 use refusal::Refusal;
 
+mod begun;
 mod branch;
 mod change;
 mod control;
@@ -176,7 +178,12 @@ fn instruction(
         return finished(registers, before, Err(Refusal::Unspecified), near);
     };
     let seen = registers::put_next(registers, word::wrapping_add(pc, 1));
-    let change = execute::execute(&seen, status, board, near, mem, pc, lines.external, instr);
+    let begun = Begun {
+        registers: seen,
+        status,
+        pc,
+    };
+    let change = execute::execute(begun, board, near, mem, lines.external, instr);
     let after = change.status;
     let done = Done {
         kind: Kind::Executed,

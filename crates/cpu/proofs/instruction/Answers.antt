@@ -1,7 +1,6 @@
 -- An instruction is refused by what the decoder says, and else makes its row's change.
 use Prim.Native.Nat.{ℕ}
 use mathlib.Core.Path.{◌≡◌, refl, ap, sym, ◌∙◌}
-use mathlib.Core.List.{List}
 use lib.ListN.{get_or}
 use Rattle.word.specs.Word.{wrap_add}
 use Rattle.memory.specs.Bus.{bus_on, read_of}
@@ -32,10 +31,8 @@ returns-in_default c =
     rw (c.finished.ensures, ← decodes (goal.at.returns-in_default c).After-specified_at, c.in_default.is) record { left = refl; near = c.fetch-fetched.ensures.near }
 
 pub execute-change-requires : goal.execute-change-requires
-execute-change-requires c = (
-  ap (λ (q : List ℕ). get_or q 7 0) c.put_next-seen.ensures ∙ c.wrapping_add.ensures,
-  decodes-in-range _ _ _ _ (sym (decodes (goal.at.execute-change-requires c).After-specified_at) ∙ c.in-Some.is),
-)
+execute-change-requires c =
+    decodes-in-range _ _ _ _ (sym (decodes (goal.at.execute-change-requires c).After-specified_at) ∙ c.in-Some.is)
 
 pub returns : goal.returns
 returns c =

@@ -31,7 +31,7 @@ read-requires c = grind (arith, nat_tests)
 pub returns-in-Hlt : goal.returns-in-Hlt
 returns-in-Hlt c =
     let a = c.args in
-    rw (c.in-Hlt.is, c.goes_on.ensures, c.halt_row.ensures) record { change = halt-leaves a.status a.pc _ none 0; memory = refl }
+    rw (c.in-Hlt.is, c.goes_on.ensures, c.halt_row.ensures) record { change = halt-leaves a.begun.status a.begun.pc _ none 0; memory = refl }
 
 pub returns-in-Control : goal.returns-in-Control
 returns-in-Control c = rw c.in-Control.is record { change = c.control.ensures _ none 0; memory = refl }
@@ -49,8 +49,8 @@ pub returns-in-Nop : goal.returns-in-Nop
 returns-in-Nop c =
     let a = c.args in
     rw (c.goes_on-in-Nop.ensures, c.register_row.ensures) elim c.in-Nop.is [
-      | inl w ↦ rw w.1 record { change = idle-leaves a.status a.pc _ none 0 0; memory = refl }
-      | inr w ↦ rw w.1 record { change = idle-leaves a.status a.pc _ none 0 0; memory = refl }
+      | inl w ↦ rw w.1 record { change = idle-leaves a.begun.status a.begun.pc _ none 0 0; memory = refl }
+      | inr w ↦ rw w.1 record { change = idle-leaves a.begun.status a.begun.pc _ none 0 0; memory = refl }
     ]
 
 pub returns-in-Shift : goal.returns-in-Shift

@@ -8,4 +8,4 @@ use Rattle.cpu.proofs.store.store_direct.Goals as goal
 pub returns : goal.returns
 returns c =
     rw (c.goes_to.ensures, c.store.ensures, c.operand.ensures, c.read-address.ensures, c.wrapping_add.ensures, c.store_row-row.ensures)
-    (direct-stores _ _ c.args.status _ _ _ _ (c.wrapping_add-next.ensures ∙ ap (λ (row : Row). wrap_add c.args.pc row.words) c.store_row-row.ensures))
+    (direct-stores _ _ c.args.begun.status _ _ _ _ (c.wrapping_add-next.ensures ∙ ap (λ (row : Row). wrap_add c.args.begun.pc row.words) c.store_row-row.ensures))
