@@ -168,11 +168,7 @@ fn instruction(
     };
     let fetched = here.fetch(pc);
     let near = fetched.near;
-    let view = View {
-        board,
-        near,
-        words: mem,
-    };
+    let view = View { near, ..here };
     let read = decode::instruction(fetched.word % 1024);
     let Some(instr) = decode::specified_at(&view, pc, read, status.d) else {
         return finished(registers, before, Err(Refusal::Unspecified), near);

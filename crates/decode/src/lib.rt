@@ -134,7 +134,8 @@ fn is_unspecified_at(view: &View, at: u16, instr: Instr, double: bool) -> bool
 }
 
 // An instruction at an address, unless its form is unspecified there. Only of a jump the second word is read. (The step and the walk read the
-// opcode themselves and call this: one function for both would be too long to be made one with their loops.)
+// opcode themselves and call this: the step needs the range at hand that the reading leaves. View, address and D are no struct: the first is
+// one already, and the others change at each turn.)
 #[tactic(auto, unfolding(crate::specs::Decode::specified))]
 pub fn specified_at(view: &View, at: u16, instr: Instr, double: bool) -> Option<Instr>
     ensures { result ≡ specified (reads view.now) at instr double }

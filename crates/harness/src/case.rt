@@ -1,8 +1,6 @@
 // What a case prints before the end of its line. Each comparison prints what differs and answers whether nothing does, so that all
-// differences of a case are seen. A write that fails is passed over.
+// differences of a case are seen. A write that fails is passed over. (The handle and the two that are compared are no struct: each call compares others.)
 ghost use Rattle.std.specs.Prelude.{◌≡◌, false, ◌==◌};
-
-use std::fmt::Display;
 
 // A case that is not in its form.
 pub fn malformed(rt: &impl Print) -> bool
@@ -12,22 +10,24 @@ pub fn malformed(rt: &impl Print) -> bool
     false
 }
 
-pub fn agree(rt: &impl Print, what: &str, same: bool) -> bool
+pub fn agree(rt: &impl Print, what: &[u8], same: bool) -> bool
     ensures { result ≡ same }
 {
     if !same {
-        let _ = print!(rt; "{what} differs, ");
+        let _ = rt.write_all(what);
+        let _ = rt.print(" differs, ");
     }
     same
 }
 
 // Shows both words.
-pub fn agree_word<N: Display + Drop>(rt: &impl Print, name: N, left: u16, expected: u16) -> bool
+pub fn agree_word(rt: &impl Print, name: &[u8], left: u16, expected: u16) -> bool
     ensures { result ≡ (left == expected) }
 {
     let same = left == expected;
     if !same {
-        let _ = print!(rt; "{name} is {left:04x} and not {expected:04x}, ");
+        let _ = rt.write_all(name);
+        let _ = print!(rt; " is {left:04x} and not {expected:04x}, ");
     }
     same
 }

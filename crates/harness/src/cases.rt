@@ -3,7 +3,7 @@
 //     step ADD@ R4,R4 is R4 + 1 + word
 //     before flags=SZOC 0100=02E4 1414=0005
 //     after flags=- r4=141A r7=0101 answer=executed cycles=8
-ghost use Rattle.std.specs.Prelude.{◌≡◌, ◌%◌, ◌^◌, ◌<◌, length};
+ghost use Rattle.std.specs.Prelude.{◌≡◌, true, ℕ, List, ◌%◌, ◌^◌, ◌<◌, ◌≤◌, length};
 ghost use Rattle.std.specs.Option.{option_map};
 ghost use Rattle.std.specs.Fn.{FnOnceReturnsAt};
 ghost use Rattle.harness.specs.Text.{quoted};
@@ -92,10 +92,14 @@ impl<'a> Iterator for Cases<'a> {
     }
 }
 
-// Prints what the line of a case begins with. A name is bytes of the input, which need not be text.
-pub fn begin(rt: &impl Print, name: &[u8]) {
+// Prints what the line of a case begins with. Nothing differs there, so it stands before a case's comparisons. A name is bytes of the input, which need
+// not be text.
+pub fn begin(rt: &impl Print, name: &[u8]) -> bool
+    ensures { result ≡ true }
+{
     let _ = rt.write_all(name);
     let _ = rt.print(": ");
+    true
 }
 
 // Runs the cases of an input. The closure begins the line of its case, and answers whether all went well.
@@ -111,9 +115,10 @@ pub fn run_cases<F: FnMut(Case) -> bool>(rt: &impl Print, input: &[u8], mut is_w
 }
 
 // Gives standard input to a program's cases, as far as there is room for it, and prints their counts.
-pub fn run<const ROOM: usize, F: FnOnce(&[u8]) -> Tally>(rt: &HostRuntime, run_cases: F)
+pub fn run<const ROOM: usize, F: FnOnce(&[u8]) -> Tally>(rt: &HostRuntime, run_cases: F) -> Tally
     requires callable { F.IsAlwaysCallable run_cases }
     requires fits { ROOM < 2 ^ 63 }
+    ensures { (input : List ℕ) × (length input ≤ ROOM) × FnOnceReturnsAt F.FnOnce run_cases input result }
 {
     let mut room = [0u8; ROOM];
     let input = input::read_full(&mut rt.stdin(), &mut room);
@@ -122,4 +127,5 @@ pub fn run<const ROOM: usize, F: FnOnce(&[u8]) -> Tally>(rt: &HostRuntime, run_c
         let _ = rt.println("the input fills its room, and may be cut");
     }
     let _ = rt.println(tally);
+    tally
 }

@@ -14,7 +14,8 @@ pub const QUIET: Lines = Lines {
 // Only prints. Whether a register differs is told by `==`, whose contract says so.
 fn say_registers(rt: &impl Print, left: [u16; 8], expected: [u16; 8]) {
     for i in 0..8 {
-        case::agree_word(rt, format_args!("R{i}"), left[i], expected[i]);
+        let name = [b'R', b'0' + i as u8];
+        case::agree_word(rt, &name, left[i], expected[i]);
     }
 }
 
@@ -22,16 +23,16 @@ fn say_registers(rt: &impl Print, left: [u16; 8], expected: [u16; 8]) {
 fn agree_status(rt: &impl Print, left: Status, expected: Status) -> bool
     ensures { (result ≡ true) ↔ left ≡ expected }
 {
-    case::agree(rt, "S", left.s == expected.s)
-        & case::agree(rt, "Z", left.z == expected.z)
-        & case::agree(rt, "O", left.o == expected.o)
-        & case::agree(rt, "C", left.c == expected.c)
-        & case::agree(rt, "I", left.i == expected.i)
-        & case::agree(rt, "D", left.d == expected.d)
-        & case::agree(rt, "halted", left.halted == expected.halted)
-        & case::agree(rt, "ready", left.ready == expected.ready)
-        & case::agree(rt, "INTRM's level", left.level == expected.level)
-        & case::agree(rt, "INTRM's mark", left.pending == expected.pending)
+    case::agree(rt, b"S", left.s == expected.s)
+        & case::agree(rt, b"Z", left.z == expected.z)
+        & case::agree(rt, b"O", left.o == expected.o)
+        & case::agree(rt, b"C", left.c == expected.c)
+        & case::agree(rt, b"I", left.i == expected.i)
+        & case::agree(rt, b"D", left.d == expected.d)
+        & case::agree(rt, b"halted", left.halted == expected.halted)
+        & case::agree(rt, b"ready", left.ready == expected.ready)
+        & case::agree(rt, b"INTRM's level", left.level == expected.level)
+        & case::agree(rt, b"INTRM's mark", left.pending == expected.pending)
 }
 
 // Whether both states are the same.

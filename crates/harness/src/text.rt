@@ -120,6 +120,7 @@ pub fn is_remark(row: &[u8]) -> bool
     row.is_empty() | (byte_at(row, 0) == b'#')
 }
 
+// (Not by `text::digit_value` of the kit: the tests read digits without the code that they test.)
 fn digit_at(row: &[u8], column: usize) -> u16
     ensures { (result ≡ digit_value (slice_index row.now column)) × (result < 16) }
 {

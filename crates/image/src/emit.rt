@@ -1,5 +1,5 @@
 // The writer's work: the head, the records of a region and the tail, put into the lent room.
-ghost use Rattle.std.specs.Prelude.{◌≡◌, ◌+◌, ◌%◌, ◌≤◌, min, length};
+ghost use Rattle.std.specs.Prelude.{◌≡◌, ◌+◌, ◌%◌, ◌≤◌, length};
 ghost use Rattle.bigendian.specs.Numbers.{bytes_of};
 ghost use Rattle.records.specs.Records.{record_over};
 ghost use Rattle.records.specs.Cut.{cut_of};

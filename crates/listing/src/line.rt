@@ -9,8 +9,8 @@ ghost use Rattle.listing.specs.Inner.Rows.{template_of, OfRegisters};
 use crate::rows;
 
 // A row of the table with the fields s and d and the operand. A field that the row does not show is 0.
-// (That the row is one of the table's is asked where it is looked up, and is no invariant of the type: the definitions make lines of any number,
-// and each would owe a proof.)
+// (That the row is one of the table's is asked where it is looked up, and is no invariant of the type: the definitions of specs/ make lines of any
+// number, and their lines are this type's. The fields s and d with the operand are the line itself, so that no struct is left to make of them.)
 #[derive(Clone, Copy)]
 pub(crate) struct Line {
     pub row: usize,

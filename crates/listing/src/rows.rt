@@ -102,7 +102,7 @@ static ROWS: [TableRow; 86] = [
 
 // The rows that code names, by their places in the table. A name that has more rows stands for the first of them: a shift's for that by one
 // place, NOP and SIN for that without a number, BEXT for that of one digit, MVO and the reads for the direct one, which has the one through
-// a register and the immediate one behind it.
+// a register and the immediate one behind it. (Numbers and no enum: families of rows are counted from their first, which an enum would have to take back.)
 #[rattlefmt::skip]
 pub(crate) mod names {
     pub(crate) const HLT: usize = 0;

@@ -1,7 +1,7 @@
 // The wait meter: after how many cycles a request is heard, from an address and over a region, found by a walk over the code.
 #![tactic(auto)]
 
-ghost use Rattle.std.specs.Prelude.{◌≡◌, ◌≤◌, MatchResult, Ok, Err};
+ghost use Rattle.std.specs.Prelude.{◌≡◌, MatchResult, Ok, Err};
 ghost use Rattle.memory.specs.Bus.{bus_on};
 ghost use Rattle.meter.specs.Answer.{wait_report, region_report};
 ghost use Rattle.meter.specs.Walk.{limit_of};

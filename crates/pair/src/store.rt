@@ -1,5 +1,5 @@
 // The reader's second pass: the words are stored, line by line, so that later lines win.
-ghost use Rattle.std.specs.Prelude.{◌≡◌, true, ◌/◌, ◌≤◌, ◌<◌, length};
+ghost use Rattle.std.specs.Prelude.{◌≡◌, ◌/◌, ◌≤◌, ◌<◌, length};
 ghost use Rattle.bigendian.specs.Numbers.{all_words};
 ghost use Rattle.records.specs.Records.{overwrite};
 ghost use Rattle.records.specs.Region.{words_between};

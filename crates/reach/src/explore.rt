@@ -18,8 +18,8 @@ use memory::near::View;
 // An address waits at most once, since it is put there when it is marked.
 const STACK: usize = 65536;
 
-// The addresses that wait, the last one on top. (The kit's `ArrayVec` is such a stack, but the proofs would then rest on that crate's statements too; now
-// they rest on the standard library's alone.)
+// The addresses that wait, the last one on top. (Fixed memory: no heap. The kit's `ArrayVec` is such a stack, but its crate would be newly trusted, and
+// nothing new is: the proofs rest on the standard library's statements alone.)
 #[derive(Drop)]
 struct Stack {
     waiting: [u16; STACK],

@@ -12,7 +12,8 @@ use crate::{Memory, Program, instructions, regions};
 use image::{FirstRecord, format};
 
 // The lines of one record. Each byte of it in the file has room for ten. The one place that asks which program it is: a closure for the lines would
-// bring their contract along as a clause of each function that hands it on.
+// bring their contract along as a clause of each function that hands it on. (That the record lies in the memory is asked by each of the three that take
+// it apart, and is no invariant of `FirstRecord`, which is of any memory's size.)
 fn push_record(page: &mut Page, program: Program, memory: &Memory, found: FirstRecord)
     requires { (0 < found.count) × (found.address + found.count ≤ board_words) × HasRoom page.old (record_bytes found.count * 10) }
     ensures { Adds page.old (record_lines program (bus_on all_ram memory.now) found.address found.count) page.new }

@@ -28,8 +28,7 @@ fn is_well(case: Case) -> bool {
 fn main(rt: HostRuntime) {
     cases::run::<INPUT_ROOM, _>(&rt, |input| {
         cases::run_cases(&rt, input, |case| {
-            cases::begin(&rt, case.name());
-            is_well(case)
+            cases::begin(&rt, case.name()) & is_well(case)
         })
     })
 }

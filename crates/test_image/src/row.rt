@@ -18,17 +18,12 @@ impl Call {
     pub fn of(before: &[u8]) -> Call {
         Call {
             board: fields::word(before, b"board", 2),
-            words: words_of(before),
+            words: words::size_of(before) as usize,
             first: fields::word(before, b"first", 0),
             last: fields::word(before, b"last", 0),
             bytes: fields::number(before, b"room", 0) as usize,
         }
     }
-}
-
-// A field, with the default that the head of `stdin` gives it here.
-fn words_of(before: &[u8]) -> usize {
-    fields::number(before, b"size", 65536) as usize
 }
 
 // Whether a row tells this answer: a number of records or a length, whose field has this key, or a refusal. Where no call was made, none is told.
@@ -62,8 +57,8 @@ pub(crate) fn is_load(before: &[u8], after: &[u8]) -> bool {
         after,
         b"loaded",
         b"answer=any records=number 0000=list pattern=any",
-    ) & are_inside(before, words_of(before))
-        & are_inside(after, words_of(before))
+    ) & are_inside(before, words::size_of(before) as usize)
+        & are_inside(after, words::size_of(before) as usize)
         & has_file(before)
 }
 
@@ -72,7 +67,7 @@ pub(crate) fn is_write(before: &[u8], after: &[u8]) -> bool {
         before,
         b"board=word size=number fill=word 0000=list pattern=any first=word last=word room=number",
     ) & answer::fit(after, b"written", b"answer=any length=number file=any")
-        & are_inside(before, words_of(before))
+        & are_inside(before, words::size_of(before) as usize)
         & has_file(after)
 }
 

@@ -23,8 +23,7 @@ fn is_well(case: Case) -> bool {
 fn main(rt: HostRuntime) {
     cases::run::<65536, _>(&rt, |input| {
         cases::run_cases(&rt, input, |case| {
-            cases::begin(&rt, case.first);
-            is_well(case)
+            cases::begin(&rt, case.first) & is_well(case)
         })
     })
 }

@@ -32,8 +32,7 @@ fn main(rt: HostRuntime) {
     let mut memory = [0u16; MEMORY_ROOM];
     cases::run::<65536, _>(&rt, |input| {
         cases::run_cases(&rt, input, |case| {
-            cases::begin(&rt, case.name());
-            is_well(case, &mut memory)
+            cases::begin(&rt, case.name()) & is_well(case, &mut memory)
         })
     })
 }

@@ -31,8 +31,8 @@ fn put_text(room: &mut [u8], text: &[u8]) {
 
 // The memory that a case begins with.
 pub(crate) fn memory_of(before: &[u8]) -> [u16; MEMORY_ROOM] {
-    let mut memory = [row::fill_of(before); MEMORY_ROOM];
-    words::put(&mut memory, before);
+    let mut memory = [0u16; MEMORY_ROOM];
+    words::lay(&mut memory, before);
     memory
 }
 

@@ -14,15 +14,6 @@ pub(crate) struct Lent {
 // A written text is `[mapping]` and one line, each with its line feed.
 const WRITTEN_TEXT: usize = 10 + 22;
 
-// A field, with the default that the head of `stdin` gives it here; so are those below, which differ in just this.
-fn words_of(before: &[u8]) -> usize {
-    fields::number(before, b"size", 65536) as usize
-}
-
-// The word at each address that a case does not name.
-pub(crate) fn fill_of(before: &[u8]) -> u16 {
-    fields::word(before, b"fill", 0x5A5A)
-}
 
 pub(crate) fn first_of(before: &[u8]) -> u16 {
     fields::word(before, b"first", 0)
@@ -35,7 +26,7 @@ pub(crate) fn last_of(before: &[u8]) -> u16 {
 // A file and a text of as many bytes as the row has.
 pub(crate) fn lent_to_load(before: &[u8]) -> Lent {
     Lent {
-        words: words_of(before),
+        words: words::size_of(before) as usize,
         bin: fields::value(before, b"bin").len() / 2,
         cfg: fields::value(before, b"text").len(),
     }
@@ -43,7 +34,7 @@ pub(crate) fn lent_to_load(before: &[u8]) -> Lent {
 
 pub(crate) fn lent_to_write(before: &[u8]) -> Lent {
     Lent {
-        words: words_of(before),
+        words: words::size_of(before) as usize,
         bin: fields::number(before, b"binroom", 0) as usize,
         cfg: fields::number(before, b"cfgroom", 0) as usize,
     }
@@ -61,7 +52,7 @@ fn region_bytes(first: u16, last: u16) -> usize {
 // Rooms of just the two lengths of the region's pair.
 pub(crate) fn lent_to_trip(before: &[u8]) -> Lent {
     Lent {
-        words: words_of(before),
+        words: words::size_of(before) as usize,
         bin: region_bytes(first_of(before), last_of(before)),
         cfg: WRITTEN_TEXT,
     }
@@ -97,7 +88,7 @@ pub(crate) fn tells_lengths(after: &[u8], answer: Option<Result<Lengths, Refusal
 }
 
 pub(crate) fn is_load(before: &[u8], after: &[u8]) -> bool {
-    let words = words_of(before);
+    let words = words::size_of(before) as usize;
     form::fit(before, b"size=number fill=word 0000=list bin=hex text=any")
         & answer::fit(after, b"loaded", b"answer=any lines=number 0000=list")
         & words::are_inside(before, words)
@@ -112,7 +103,7 @@ pub(crate) fn is_write(before: &[u8], after: &[u8]) -> bool {
         after,
         b"written",
         b"answer=any binlength=number cfglength=number bin=hex text=any",
-    ) & words::are_inside(before, words_of(before))
+    ) & words::are_inside(before, words::size_of(before) as usize)
 }
 
 pub(crate) fn is_trip(before: &[u8], after: &[u8]) -> bool {

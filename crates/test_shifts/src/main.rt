@@ -21,9 +21,9 @@ fn agree_answer(rt: &impl Print, given: Result<Done, Refusal>, expected: u64) ->
         },
     ) = given
     else {
-        return case::agree(rt, "the answer", false);
+        return case::agree(rt, b"the answer", false);
     };
-    case::agree(rt, "the number of cycles", cycles == expected)
+    case::agree(rt, b"the number of cycles", cycles == expected)
 }
 
 // Makes the step, and compares all that it leaves with what the row says.
@@ -37,7 +37,7 @@ fn step_agrees(rt: &impl Print, row: &[u8], opcode: u16) -> bool {
     );
     machine::agree(rt, stepped.state, rows::after(row))
         & agree_answer(rt, stepped.answer, fields::number(row, b"cycles", 0))
-        & case::agree(rt, "the memory", memory[0] == opcode)
+        & case::agree(rt, b"the memory", memory[0] == opcode)
 }
 
 // The opcode comes from the line, which ties it to the row's name.

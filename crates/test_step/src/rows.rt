@@ -152,6 +152,7 @@ pub(crate) fn lines_of(before: &[u8]) -> Lines {
     }
 }
 
+// (As `findings::limit_of` of the harness, but for 32 bits: a line each, with its own key.)
 pub(crate) fn budget_of(before: &[u8]) -> u32 {
     (fields::number(before, b"budget", 0) % 4294967296) as u32
 }

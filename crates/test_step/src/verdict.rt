@@ -16,7 +16,7 @@ pub(crate) fn agree_memory(rt: &impl Print, memory: &[u16], expected: &[u16]) ->
     for (at, (word, wanted)) in memory.iter().zip(expected).enumerate() {
         if *word != *wanted {
             let _ = print!(rt; "at {at:04x} ");
-            return case::agree_word(rt, "the word", *word, *wanted);
+            return case::agree_word(rt, b"the word", *word, *wanted);
         }
     }
     true

@@ -21,6 +21,7 @@ impl Differences {
     }
 }
 
+// (Field by field: the vectors tell four of the ten marks.)
 fn flags_of(status: Status) -> Flags {
     Flags {
         s: status.s,

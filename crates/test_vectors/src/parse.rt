@@ -1,5 +1,5 @@
 // Reads numbers and marks off a line of text.
-ghost use Rattle.std.specs.Prelude.{◌+◌, ◌^◌, ◌<◌, ◌≤◌, length, IfSome};
+ghost use Rattle.std.specs.Prelude.{◌+◌, ◌<◌, ◌≤◌, length, IfSome};
 
 // What is left of a line. What a reader wants and does not find there makes it answer `None`.
 #[derive(Clone, Copy)]

@@ -1,5 +1,5 @@
 // Reads a vector off its line: the machine and the memory before the instruction, and what they are to be after it.
-ghost use Rattle.std.specs.Prelude.{◌<◌, ◌≤◌, length, IfSome};
+ghost use Rattle.std.specs.Prelude.{◌<◌, length, IfSome};
 
 use crate::parse::Line;
 use cpu::{State, Status};
@@ -52,9 +52,9 @@ fn read_flags(line: &mut Line) -> Option<Flags> {
 fn read_machine(line: &mut Line) -> Option<Machine> {
     let flags = read_flags(line)?;
     let mut registers = [0u16; 8];
-    for n in 0..8usize {
+    for register in &mut registers {
         line.expect(b' ')?;
-        registers[n] = line.hex_word()?;
+        *register = line.hex_word()?;
     }
     Some(Machine { flags, registers })
 }
