@@ -30,7 +30,9 @@ fn is_listed_alike(line: Line, answer: Result<Assembly, Refusal>, double: bool) 
     let Some(again) = line_of(followed(assembly), double) else {
         return false;
     };
-    (line.room == again.room) & (line.listed.length == again.listed.length) & (line.listed.words == again.listed.words)
+    (line.room == again.room)
+        & (line.listed.length == again.listed.length)
+        & (line.listed.words == again.listed.words)
 }
 
 fn count(counts: &mut [Count; 7], memory: [u16; 3], double: bool) {

@@ -14,7 +14,6 @@ pub(crate) struct Lent {
 // A written text is `[mapping]` and one line, each with its line feed.
 const WRITTEN_TEXT: usize = 10 + 22;
 
-
 pub(crate) fn first_of(before: &[u8]) -> u16 {
     fields::word(before, b"first", 0)
 }
