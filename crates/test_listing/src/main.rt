@@ -25,5 +25,5 @@ fn main(rt: HostRuntime) {
         cases::run_cases(&rt, input, |case| {
             cases::begin(&rt, case.first) & is_well(case)
         })
-    })
+    });
 }

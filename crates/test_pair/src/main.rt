@@ -28,5 +28,5 @@ fn main(rt: HostRuntime) {
         cases::run_cases(&rt, input, |case| {
             cases::begin(&rt, case.name()) & is_well(case)
         })
-    })
+    });
 }

@@ -74,5 +74,5 @@ fn run_rows(rt: &impl Print, input: &[u8]) -> Tally {
 }
 
 fn main(rt: HostRuntime) {
-    cases::run::<131072, _>(&rt, |input| run_rows(&rt, input))
+    cases::run::<131072, _>(&rt, |input| run_rows(&rt, input));
 }

@@ -96,5 +96,5 @@ fn main(rt: HostRuntime) {
         cases::run_cases(&rt, input, |case| {
             is_well(&rt, case, &mut memory, &mut expected)
         })
-    })
+    });
 }
