@@ -9,10 +9,10 @@ use lib.ListN.{length, take, drop, length-append, length-take, length-drop}
 use lib.Seq.{take_all, take-append_seam, drop-append_seam}
 use borrow.Author.Tests.{lt-ltb, le-ltb}
 use Rattle.refusal.specs.declared.Refusal.TheVariants.{RoomTooSmall}
-use Rattle.refusal.proofs.ReportLaws.{no_answer, same_answer, same-refusal}
+use Rattle.refusal.proofs.ReportLaws.{reported-apart}
 use Rattle.word.specs.Word.{wrap_add}
 use Rattle.word.proofs.Choice.{cond-true, cond-false}
-use Rattle.std.proofs.Common.{Ok, Err}
+use Rattle.std.proofs.Common.{Ok}
 use Rattle.bigendian.specs.Numbers.{bytes_of, total, fitting, put_words}
 use Rattle.bigendian.proofs.NumberLaws.{bytes-length, put-fits}
 use Rattle.bigendian.proofs.PutLaws.{put-length, put-behind, put_whole, part-put}
@@ -30,10 +30,7 @@ use Rattle.image.proofs.LoadLaws.{one_number}
 use Rattle.image.proofs.PassLaws.{mod-left, mod-right}
 
 pub write-answers-apart : WriteAnswersApart
-write-answers-apart (Err a) (Err b) e = ap Err (same-refusal a b e)
-write-answers-apart (Err a) (Ok b) e = no_answer e
-write-answers-apart (Ok a) (Err b) e = no_answer (sym e)
-write-answers-apart (Ok a) (Ok b) e = ap Ok (same_answer e)
+write-answers-apart = reported-apart (λ bytes. bytes) (λ a b e. e)
 
 -- numbers put behind those that were put
 laid_more : (d : List ℕ) (at : ℕ) (xs ys : List ℕ) {d1 d2 : List ℕ} {next : ℕ} → d1 ≡ put_words d at xs → next ≡ at + length xs * 2 → d2 ≡ put_words d1 next ys

@@ -1,9 +1,9 @@
 -- What the two calls report, in document 01's numbers and values: "answers text length, words used and next D"; one, two or three
 -- words; or the refusal's number.
-use Rattle.std.specs.Prelude.{ℕ, Bool, List, [], ◌∷◌, Result, Ok, Err}
+use Rattle.std.specs.Prelude.{ℕ, Bool, List, [], ◌∷◌, Result}
 use Rattle.refusal.specs.declared.Refusal.{Refusal}
-use Rattle.refusal.specs.Refusals.{refusal_number}
-use Rattle.refusal.specs.Report.{Report, refused, answered, OneToOne}
+use Rattle.refusal.specs.Refusals.{reported}
+use Rattle.refusal.specs.Report.{Report, answered, OneToOne}
 use Rattle.listing.specs.declared.Listed.{Listed}
 use Rattle.listing.specs.declared.Assembly.{Assembly}
 use Rattle.listing.specs.declared.Assembly.TheVariants.{One, Two, Three}
@@ -14,12 +14,14 @@ pub record ListedLine : Type 0 where
   pub words : ℕ
   pub double : Bool
 
+abbrev pub line_told : Listed → ListedLine
+line_told x = record { length = x.length; words = x.words; double = x.double }
+
 abbrev pub listed_line : ℕ → ℕ → Bool → Report ListedLine
 listed_line length words double = answered (record { length = length; words = words; double = double })
 
 abbrev pub listing_reported : Result Listed Refusal → Report ListedLine
-listing_reported (Ok x) = listed_line x.length x.words x.double
-listing_reported (Err r) = refused (refusal_number r)
+listing_reported answer = reported line_told answer
 
 -- the words of a line
 abbrev pub words_in : Assembly → List ℕ
@@ -28,8 +30,7 @@ words_in (Two w a) = w ∷ a ∷ []
 words_in (Three w a b) = w ∷ a ∷ b ∷ []
 
 abbrev pub assembly_reported : Result Assembly Refusal → Report (List ℕ)
-assembly_reported (Ok x) = answered (words_in x)
-assembly_reported (Err r) = refused (refusal_number r)
+assembly_reported answer = reported words_in answer
 
 -- no two answers are reported alike
 pub record AnswersApart : Type 0 where

@@ -11,7 +11,7 @@ use borrow.Author.Tests.{ltb-false}
 use Rattle.refusal.specs.declared.Refusal.{Refusal}
 use Rattle.refusal.specs.declared.Refusal.TheVariants.{MemoryTooLong, PastMemory, MalformedMapping, MissingFileWords, RoomTooSmall}
 use Rattle.refusal.specs.Report.{answered}
-use Rattle.refusal.proofs.ReportLaws.{no_answer, same_answer, same-refusal}
+use Rattle.refusal.proofs.ReportLaws.{no_answer, same_answer, told-apart, reported-apart}
 use Rattle.memory.specs.Memory.{too_long}
 use Rattle.std.proofs.Common.{Option, None, Some, Result, Ok, Err}
 use Rattle.memory.specs.Bus.{unless_barred}
@@ -29,7 +29,7 @@ use Rattle.pair.specs.declared.line.Mapping.{Mapping}
 use Rattle.pair.specs.Format.{head_line}
 use Rattle.pair.specs.Read.{begins_with, front_of, Mappings, listed, malformed, with_mapping, following, mappings_from, mappings_below, mappings_of}
 use Rattle.pair.specs.Load.{mapped_records, has_its_words, lines_tested, load_pair_of}
-use Rattle.pair.specs.Answer.{PairLengths, PairAnswersApart}
+use Rattle.pair.specs.Answer.{PairLengths, PairAnswersApart, lengths_told}
 use Rattle.pair.specs.Write.{text_for, PairWriting, refuse_pair, writing_pair, write_pair_of}
 use Rattle.pair.specs.Laws.{PairRefusesOrLoads, PairRefusesOrWrites, RightLengths, AnswersLengths}
 use Rattle.pair.proofs.LoadLaws.{records-count}
@@ -39,11 +39,7 @@ abbrev lengths_of : PairLengths → Lengths
 lengths_of x = record { bin = x.bin; cfg = x.cfg }
 
 pub pair-answers-apart : PairAnswersApart
-pair-answers-apart (Err a) (Err b) e = ap Err (same-refusal a b e)
-pair-answers-apart (Err a) (Ok b) e = no_answer e
-pair-answers-apart (Ok a) (Err b) e = no_answer (sym e)
-pair-answers-apart (Ok a) (Ok b) e =
-    ap (λ (x : PairLengths). Ok (lengths_of x)) (same_answer e)
+pair-answers-apart = reported-apart lengths_told (told-apart lengths_told lengths_of (λ l. refl))
 
 -- a text has no more lines than bytes
 abbrev count_of : Mappings → ℕ

@@ -11,7 +11,8 @@ use Rattle.refusal.specs.declared.Refusal.{Refusal}
 use Rattle.refusal.specs.declared.Refusal.TheVariants.{TooManyEntries, WrongSetLength}
 use Rattle.refusal.specs.Refusals.{refusal_number}
 use Rattle.refusal.specs.Report.{Report, refused, answered}
-use Rattle.refusal.proofs.ReportLaws.{no_answer, same_answer, same-refusal, told-apart}
+use Rattle.reach.specs.Answer.{summary_told}
+use Rattle.refusal.proofs.ReportLaws.{no_answer, told-apart, reported-apart}
 use Rattle.memory.specs.Bus.{Bus, read_of, admission_of, unless_barred}
 use Rattle.bitset.specs.Bits.{contains, in_either, LowestOrNone, none, lowest_at, lowest_or_none, is_wrong_length, SetBuffer}
 use Rattle.bitset.proofs.SetLaws.{same-members}
@@ -124,12 +125,10 @@ lowest-back None = refl
 lowest-back (Some a) = refl
 
 pub reach-answers-apart : ReachAnswersApart
-reach-answers-apart (Err a) (Err b) e = ap Err (same-refusal a b e)
-reach-answers-apart (Err a) (Ok s) e = no_answer e
-reach-answers-apart (Ok s) (Err b) e = no_answer (sym e)
-reach-answers-apart (Ok s) (Ok s') e =
-    let t = same_answer e in
-    let p : s.addresses ≡ s'.addresses = ap (λ (x : SetSummary). x.addresses) t in
-    let q : s.writers ≡ s'.writers = ap (λ (x : SetSummary). x.writers) t in
-    let r : s.lowest ≡ s'.lowest = told-apart lowest_or_none lowest_back lowest-back s.lowest s'.lowest (ap (λ (x : SetSummary). x.lowest_writer) t) in
-    λ i. Ok (record { addresses = p i; writers = q i; lowest = r i })
+reach-answers-apart =
+    reported-apart summary_told
+    (λ s s' e.
+    let p : s.addresses ≡ s'.addresses = ap (λ (x : SetSummary). x.addresses) e in
+    let q : s.writers ≡ s'.writers = ap (λ (x : SetSummary). x.writers) e in
+    let r : s.lowest ≡ s'.lowest = told-apart lowest_or_none lowest_back lowest-back s.lowest s'.lowest (ap (λ (x : SetSummary). x.lowest_writer) e) in
+    λ i. record { addresses = p i; writers = q i; lowest = r i })
