@@ -193,7 +193,7 @@ pub extern "C" fn cp1610_assemble(line: &[u8], d: u8, words: &mut [u16]) -> u64
     }
 }
 
-// Loads an image file.
+// Loads an image file. (This call and `cp1610_load_pair` have an exported name each, over a call of its own.)
 #[unsafe(no_mangle)]
 pub extern "C" fn cp1610_load(board: u16, mem: &mut [u16], file: &[u8]) -> u64
     ensures { called result (items mem.new ∷ [])

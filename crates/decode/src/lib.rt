@@ -72,7 +72,7 @@ fn status_instruction(d: u16) -> Instr
     }
 }
 
-// Opcodes 000 to 03F.
+// Opcodes 000 to 03F. (By a `match`, here and in `rows`: this is the table itself, and no function is handed on.)
 #[tactic(auto, using(std::proofs::lemmas::Bool::Decides::nat_tests), unfolding(crate::specs::Decode::low_instruction))]
 fn low_instruction(s: u16, d: u16) -> Instr
     ensures { result ≡ low_instruction s d }

@@ -22,7 +22,7 @@ pub struct Case<'a> {
 }
 
 impl<'a> Case<'a> {
-    // What is called.
+    // What is called. (A line each names a part of a case's rows.)
     pub fn kind(&self) -> &'a [u8]
         ensures { result.now ≡ kind_of_row self.now.first.now }
     {

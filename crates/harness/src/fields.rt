@@ -44,7 +44,7 @@ use crate::text;
 
 const BLANK: u8 = b' ';
 
-// The parts of a row by the mark between them, here and in `text`, are one line each: a parameter for the mark would name none of them.
+// The parts of a row by the mark between them, here, in `text` and in `form`, are one line each: a parameter for the mark would name none of them.
 pub fn kind(row: &[u8]) -> &[u8]
     ensures { result.now ≡ kind_of_row row.now }
 {
@@ -110,6 +110,7 @@ pub(crate) struct Fields<'a> {
 }
 
 impl<'a> Fields<'a> {
+    // (What goes over the fields is one call of the iterator's each, here, in `form` and in `words`.)
     pub(crate) fn of(row: &'a [u8]) -> Fields<'a>
         ensures { fields_left result ≡ fields_of row.now }
     {
@@ -167,7 +168,7 @@ pub fn is(fields: &[u8], key: &[u8], word: &[u8]) -> bool
     has(fields, key) & (value(fields, key) == word)
 }
 
-// The word in a field's value, if there is such a field.
+// The word in a field's value, if there is such a field. (This one reads hexadecimal digits into 16 bits, `find_number` decimal ones into 64.)
 pub fn find_word(fields: &[u8], key: &[u8]) -> Option<u16>
     ensures { result ≡ find_word_of_key fields.now key.now }
 {

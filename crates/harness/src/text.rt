@@ -107,7 +107,7 @@ pub fn from_column(row: &[u8], column: usize) -> &[u8]
     row.get(column..).unwrap_or_default()
 }
 
-// The byte at a column, and 0 past the row's end.
+// The byte at a column, and 0 past the row's end. (A line of the library's, as `word_at` of `bitset`.)
 pub fn byte_at(row: &[u8], column: usize) -> u8
     ensures { result ≡ slice_index row.now column }
 {

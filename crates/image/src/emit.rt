@@ -10,7 +10,7 @@ ghost use Rattle.image.specs.Inner.Emit.{RecordsPut};
 use crate::format;
 use refusal::Refusal;
 
-// The bytes of the file of a region.
+// The bytes of the file of a region. (Records are counted as `record_count` of specs/ has it.)
 fn image_length(words: usize) -> usize
     requires { words ≤ 65536 }
     ensures { result ≡ image_length head_bytes record_limit words }

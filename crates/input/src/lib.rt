@@ -13,6 +13,7 @@ pub fn read_full<'a, R: Read>(input: &mut R, room: &'a mut [u8]) -> &'a [u8]
     ensures taken { Consumes (R.remaining input.old) (R.remaining input.new) result.now }
 {
     let mut done = 0;
+    // (No `for`: a read may give less than was asked for, and `read_to_end` needs a heap.)
     while done < room.len() {
         match input.read(&mut room[done..]) {
             Ok(0) => break,

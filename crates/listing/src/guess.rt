@@ -1,5 +1,6 @@
 // The row that a text is of, if it is a line at all: told by the letters that it begins with, and by its length where a name has
 // more forms. A text that is no line gets any row: it is refused later, since the words that it is read as do not list as it.
+// (Nested `match`es become jump tables, where a list of names would be searched; and a function for each letter is that letter's tree in the definition.)
 #![tactic(auto, using(std::proofs::lemmas::Bool::Decides::nat_tests))]
 
 ghost use Rattle.std.specs.Prelude.{◌≡◌, ◌≤◌};

@@ -116,6 +116,7 @@ pub(crate) fn explore(
         push(clear, &mut stack, entry);
     }
     let mut near = near::no_range();
+    // (No `for`: what waits grows as it is followed.)
     while 0 < stack.depth {
         stack.depth -= 1;
         let from = stack.waiting[stack.depth];

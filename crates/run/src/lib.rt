@@ -94,6 +94,7 @@ fn make_steps(state: State, board: Board, mem: &mut [u16], lines: Lines, budget:
     let mut steps: u32 = 0;
     let mut cycles: u64 = 0;
     let limit = budget as u64;
+    // (No `for`: the steps are not known before, it ends by the cycles.)
     while cycles < limit {
         last = cpu::admitted_step(last.state, board, last.near, mem, lines);
         let Ok(done) = last.answer else {

@@ -29,7 +29,7 @@ pub(crate) fn memory_of(before: &[u8]) -> Memory {
     memory
 }
 
-// The memory that a load ends with. (Pairs have the same function, over a row's words alone.)
+// The memory that a load ends with. (Pairs' cases have words alone, and no pattern.)
 pub(crate) fn memory_after(before: &[u8], after: &[u8]) -> Memory {
     let mut memory = memory_of(before);
     put_words(&mut memory, after);

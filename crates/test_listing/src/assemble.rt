@@ -24,6 +24,7 @@ fn has_words(after: &[u8], words: &[u16]) -> bool {
             .all(|(index, word)| words::list_word(list, index) == *word)
 }
 
+// (Each variant has its own words.)
 fn is_answer(answer: Result<Assembly, Refusal>, after: &[u8]) -> bool {
     match answer {
         Ok(Assembly::One(a)) => has_words(after, &[a]),

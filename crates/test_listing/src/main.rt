@@ -20,6 +20,7 @@ fn is_well(case: Case) -> bool {
     }
 }
 
+// (A program has a main of its own: what it shares with the others is one call.)
 fn main(rt: HostRuntime) {
     cases::run::<65536, _>(&rt, |input| {
         cases::run_cases(&rt, input, |case| {

@@ -39,6 +39,7 @@ fn are_of_region(before: &[u8], after: &[u8]) -> bool {
     )
 }
 
+// (Each call has its own fields.)
 fn are_of(call: Call, before: &[u8], after: &[u8]) -> bool {
     match call {
         Call::Wait => are_of_wait(before, after),

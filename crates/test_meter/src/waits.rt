@@ -11,6 +11,7 @@ fn tells(after: &[u8], name: &[u8], cycles: u16, address: u16, number: u16) -> b
         & (fields::number(after, b"number", 0) == u64::from(number))
 }
 
+// (Each variant has its own numbers.)
 fn tells_answer(after: &[u8], answer: Result<Walked, Refusal>) -> bool {
     match answer {
         Ok(Walked::Wait { cycles, .. }) => tells(after, b"wait", cycles, 0, 0),

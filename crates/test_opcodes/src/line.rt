@@ -42,7 +42,7 @@ fn cut(memory: [u16; 3], words: u16) -> [u16; 3] {
     [opcode, memory[1], memory[2]]
 }
 
-// What the line of so many of the words is to be assembled to.
+// What the line of so many of the words is to be assembled to. (Each count is a variant of its own.)
 pub(crate) fn assembly_of(memory: [u16; 3], words: u16) -> Assembly {
     let [w, a, b] = cut(memory, words);
     match words {

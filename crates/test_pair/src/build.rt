@@ -36,7 +36,7 @@ pub(crate) fn memory_of(before: &[u8]) -> [u16; MEMORY_ROOM] {
     memory
 }
 
-// The memory that a case ends with.
+// The memory that a case ends with. (Images' cases have a pattern beside their words.)
 pub(crate) fn memory_after(before: &[u8], after: &[u8]) -> [u16; MEMORY_ROOM] {
     let mut memory = memory_of(before);
     words::put(&mut memory, after);

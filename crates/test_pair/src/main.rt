@@ -23,6 +23,7 @@ fn is_well(case: Case) -> bool {
     }
 }
 
+// (A program has a main of its own: what it shares with the others is one call.)
 fn main(rt: HostRuntime) {
     cases::run::<INPUT_ROOM, _>(&rt, |input| {
         cases::run_cases(&rt, input, |case| {

@@ -14,6 +14,7 @@ pub(crate) struct Lent {
 // A written text is `[mapping]` and one line, each with its line feed.
 const WRITTEN_TEXT: usize = 10 + 22;
 
+// A field each, with the default that the head of `stdin` gives it here.
 pub(crate) fn first_of(before: &[u8]) -> u16 {
     fields::word(before, b"first", 0)
 }
@@ -66,7 +67,8 @@ fn tells_number(after: &[u8], key: &[u8], number: usize) -> bool {
     !answer::is_refused(after) & (fields::number(after, key, 0) == number as u64)
 }
 
-// Whether a row tells this answer of the reader, the number of lines. Where no call was made, none is told; so it is below.
+// Whether a row tells this answer of the reader, the number of lines. Where no call was made, none is told; so it is below. (Each answer
+// has its own numbers.)
 pub(crate) fn tells_lines(after: &[u8], answer: Option<Result<usize, Refusal>>) -> bool {
     match answer {
         Some(Ok(lines)) => tells_number(after, b"lines", lines),

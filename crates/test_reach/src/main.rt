@@ -11,6 +11,7 @@ mod tell;
 use harness::cases;
 use harness::cases::Case;
 
+// (The calls are those of this program, so that no other shares this function.)
 fn is_well(case: Case) -> bool {
     let (Some(before), Some(after)) = (case.before(), case.after()) else {
         return false;
@@ -23,6 +24,7 @@ fn is_well(case: Case) -> bool {
     }
 }
 
+// (A program has a main of its own: what it shares with the others is one call.)
 fn main(rt: HostRuntime) {
     cases::run::<131072, _>(&rt, |input| {
         cases::run_cases(&rt, input, |case| {

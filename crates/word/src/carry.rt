@@ -1,5 +1,6 @@
 // The four instructions that shift through carry, by one and by two. Each line names what one bit of the result, or the flag C or O after the
 // shift, takes: an old bit, an old flag, or 0. This text is what runs. docs/SHIFTS.md has the same as pictures, with worked letters.
+// The eight forms share no function: each is a table to be checked by hand, a line a bit.
 //
 // How to read it. `RLC R0` is by one, `rlc_once` here, and `RLC R0,2` is by two, `rlc_twice`; which register it is makes no difference. Of a form
 // read the lines below `Bits`. `bit15: old.bit13` says that bit 15 of the result takes the old bit 13, as it was before the shift. Bit 15 is the
