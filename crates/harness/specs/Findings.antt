@@ -1,5 +1,6 @@
 -- What the meter answers for a region, as the fields of a case tell it.
 use Rattle.std.specs.Prelude.{ℕ, Bool, true, false, not, ◌&&◌, List, ◌==◌, Option, Some, None, Result, Ok, Err}
+use Rattle.std.specs.Option.{option_map}
 use Rattle.refusal.specs.declared.Refusal.{Refusal}
 use Rattle.refusal.specs.Refusals.{refusal_number}
 use Rattle.meter.specs.declared.LongestWait.{LongestWait}
@@ -16,17 +17,10 @@ is_told (Some n) None = false
 is_told (Some n) (Some m) = n == m
 
 -- the cycles of the longest wait, and its start
-abbrev pub cycles_of : Option LongestWait → Option ℕ
-cycles_of None = None
-cycles_of (Some wait) = Some wait.cycles
-
-abbrev pub start_of : Option LongestWait → Option ℕ
-start_of None = None
-start_of (Some wait) = Some wait.start
-
 abbrev pub tells_longest : List ℕ → Option LongestWait → Bool
 tells_longest fields longest =
-    is_told (find_number_of_key fields (quoted "longest")) (cycles_of longest) && is_told (find_word_of_key fields (quoted "start")) (start_of longest)
+    is_told (find_number_of_key fields (quoted "longest")) (option_map (λ wait. wait.cycles) longest)
+    && is_told (find_word_of_key fields (quoted "start")) (option_map (λ wait. wait.start) longest)
 
 -- a refusal with its number; or no refusal, the longest wait with its start, and the lowest start over the limit
 abbrev pub tells_findings : List ℕ → Result Findings Refusal → Bool

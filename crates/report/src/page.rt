@@ -21,7 +21,7 @@ pub(crate) const SPACE: u8 = b' ';
 const LINE_FEED: u8 = b'\n';
 
 impl<'a> Page<'a> {
-    pub fn push(&mut self, byte: u8)
+    pub(crate) fn push(&mut self, byte: u8)
         requires { HasRoom self.old 1 }
         ensures { Writes self.old (byte ∷ []) self.new }
     {
@@ -29,7 +29,7 @@ impl<'a> Page<'a> {
         self.at += 1;
     }
 
-    pub fn push_bytes(&mut self, bytes: &[u8])
+    pub(crate) fn push_bytes(&mut self, bytes: &[u8])
         requires { HasRoom self.old (length bytes.now) }
         ensures { Writes self.old bytes.now self.new }
     {
@@ -39,7 +39,7 @@ impl<'a> Page<'a> {
     }
 
     // A number as four hexadecimal digits.
-    pub fn push_hex(&mut self, word: u16)
+    pub(crate) fn push_hex(&mut self, word: u16)
         requires { HasRoom self.old 4 }
         ensures { Writes self.old (hex_of word) self.new }
     {
@@ -48,7 +48,7 @@ impl<'a> Page<'a> {
 
     // A number and the space behind it.
     #[tactic(auto, using(crate::proofs::LengthLaws::hex_length))]
-    pub fn push_field(&mut self, word: u16)
+    pub(crate) fn push_field(&mut self, word: u16)
         requires { HasRoom self.old 5 }
         ensures { Writes self.old (hex_of word ++ (space ∷ [])) self.new }
     {
@@ -69,7 +69,7 @@ impl<'a> Page<'a> {
         }
     }
 
-    pub fn end_line(&mut self)
+    pub(crate) fn end_line(&mut self)
         requires { HasRoom self.old 1 }
         ensures { Writes self.old (line_text []) self.new }
     {
@@ -78,7 +78,7 @@ impl<'a> Page<'a> {
 
     // All that is printed of an input that is refused.
     #[tactic(auto, using(crate::proofs::LengthLaws::decimal_length))]
-    pub fn push_refusal(&mut self, refusal: Refusal)
+    pub(crate) fn push_refusal(&mut self, refusal: Refusal)
         requires { HasRoom self.old 16 }
         ensures { Writes self.old (line_text (refused_line (refusal_number refusal))) self.new }
     {
@@ -89,7 +89,7 @@ impl<'a> Page<'a> {
 
     // A line with a number: the first one and the last.
     #[tactic(auto, using(crate::proofs::LengthLaws::hex_length))]
-    pub fn push_numbered(&mut self, name: &[u8], number: u16)
+    pub(crate) fn push_numbered(&mut self, name: &[u8], number: u16)
         requires { HasRoom self.old (length name.now + 5) }
         ensures { Writes self.old (line_text (name.now ++ hex_of number)) self.new }
     {
