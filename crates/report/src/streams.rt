@@ -1,6 +1,9 @@
 // What a program does with its streams.
-ghost use Rattle.report.specs.Streams.{Transcribes, EndsWell};
+ghost use Rattle.std.specs.Prelude.{◌≡◌, ◌≤◌, length};
+ghost use Rattle.std.specs.Io.KnownBytes.{Consumes};
 ghost use Rattle.std.specs.Process.{exit_status};
+ghost use Rattle.report.specs.Reading.{read_room};
+ghost use Rattle.report.specs.Streams.{Transcribes, EndsWell};
 
 use crate::{Program, READ_ROOM, TEXT_ROOM, print};
 use std::io;
@@ -17,12 +20,21 @@ pub struct Transcribed {
     pub written: io::Result<()>,
 }
 
+// Reads an image. The room is a byte longer than the longest image: in a smaller one nobody would see that an input is over-long.
+fn read_image<'a, R: Read>(input: &mut R, room: &'a mut [u8]) -> &'a [u8]
+    requires { length room.old ≡ read_room }
+    ensures within { length result.now ≤ read_room }
+    ensures taken { Consumes (R.remaining input.old) (R.remaining input.new) result.now }
+{
+    input::read_full(input, room)
+}
+
 // Reads an image, and writes its text. The text is made whole before any of it is written.
 pub fn transcribe<R: Read, W: Write>(program: Program, input: &mut R, output: &mut W) -> Transcribed
     ensures { Transcribes program (R.remaining input.old) (R.remaining input.new) (W.contents output.old) (W.contents output.new) result }
 {
     let mut room = [0u8; READ_ROOM];
-    let image = input::read_full(input, &mut room);
+    let image = read_image(input, &mut room);
     let mut text = [0u8; TEXT_ROOM];
     let printed = print(program, image, &mut text);
     Transcribed {
