@@ -24,12 +24,13 @@ use Rattle.listing.specs.Disassemble.{text_at}
 use Rattle.listing.specs.Cut.{cut_at}
 use Rattle.listing.specs.Assemble.{no_line, held_to, assemble_of}
 use Rattle.listing.specs.Laws.{WordsOf}
-use Rattle.listing.specs.Inner.Rows.{base_of}
+use Rattle.listing.specs.Inner.Rows.{template_of, base_of}
 use Rattle.listing.specs.Inner.Line.{text_of}
 use Rattle.listing.specs.Inner.Guess.{Guesses}
 use Rattle.listing.specs.Inner.Entry.{row_entry_of, row_entry_at, row_text_at}
 use Rattle.listing.specs.Inner.Encode.{line_read, word_count, jump_word, jump_words, plain_words, opcode_in, encoded, first_words, memory_as}
 use Rattle.listing.proofs.Table.{base-low}
+use Rattle.listing.proofs.Lines.{text-length}
 use Rattle.listing.proofs.Entries.{entry_in, entry-of-words}
 use Rattle.listing.proofs.Back.{read-row, read-16}
 use Rattle.listing.proofs.EntryWith.{entry_with, cut_with, entry-with, cut-with, Trip}
@@ -285,3 +286,13 @@ module _ (text : List ℕ) (double : Bool) (g : ℕ) (low : g < 86) (guessed : G
   refused-by f =
       sym (not-assembled text double
       (λ w a b k e. clash (guess-accepts (three w a b) 0 (text_is (three w a b) 0 double ∙ e) (second_word text double w a b k)) f))
+
+  -- a text that is not as long as the lines of its row
+  pub refused-length : (length (template_of g) ≡ length text → ⊥) → no_line ≡ assemble_of text double
+  refused-length other = refused-by (go accepts refl)
+    where
+      go : (b : Bool) → accepts ≡ b → accepts ≡ false
+      go true ok =
+          let s = same-eq (row_text_at memory 0 double) text ok in
+          absurd (other (ap (λ (r : ℕ). length (template_of r)) (its-row memory 0 s) ∙ sym (text-length (its-line memory 0 s)) ∙ ap length s))
+      go false none = none

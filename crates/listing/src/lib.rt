@@ -75,7 +75,12 @@ fn first_words(words: [u16; 3], count: u16) -> Assembly
 pub fn assemble(text: &[u8], double: bool) -> Result<Assembly, Refusal>
     ensures { assembly_reported result ≡ assemble_of text.now double }
 {
-    let line = encode::read(text, guess::guess_row(text));
+    let row = guess::guess_row(text);
+    // A text of another length than the lines of its row is none of them, and is not decoded.
+    if rows::row_at(row).template.len() != text.len() {
+        return Err(Refusal::NotAListingLine);
+    }
+    let line = encode::read(text, row);
     let words = encode::words_of(line, double);
     let entry = entry::entry_of(words[0], words[1], words[2], double);
     if entry.line.spells(text) {
