@@ -75,10 +75,11 @@ pub fn body_of<'a>(row: &'a [u8], word: &[u8]) -> Option<&'a [u8]>
     }
 }
 
+// (The `=` is looked at first: where it is missing, no byte of the key need be.)
 pub(crate) fn starts_with_key(row: &[u8], key: &[u8]) -> bool
     ensures { result ≡ starts_with_key row.now key.now }
 {
-    row.starts_with(key) & (text::byte_at(row, key.len()) == b'=')
+    (text::byte_at(row, key.len()) == b'=') && text::starts_with(row, key)
 }
 
 #[tactic(auto, unfolding(crate::specs::Fields::first_field))]

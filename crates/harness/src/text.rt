@@ -1,7 +1,7 @@
 // Text: what stands before and behind a mark, the rows of an input, and the numbers that digits write.
 ghost use Rattle.std.specs.Prelude.{◌≡◌, ◌-◌, ◌<◌, ◌≤◌, [], length, drop, slice_index, slice_index_or};
 ghost use Rattle.harness.specs.Text.{length_before, count_of, part_before, part_behind, first_row, after_first_row, rows_of, rows_left, is_remark};
-ghost use Rattle.harness.specs.Text.{all_stand_in, digit_value, hex_number, decimal_number};
+ghost use Rattle.harness.specs.Text.{starts_with, all_stand_in, digit_value, hex_number, decimal_number};
 
 const LINE_FEED: u8 = 10;
 
@@ -91,6 +91,20 @@ impl<'a> Iterator for Rows<'a> {
         self.rest = after_first_row(rest);
         Some(first_row(rest))
     }
+}
+
+// Whether a text begins so. (Not by the slice's own `starts_with`: that is a call of the library's for each field of a row.)
+pub(crate) fn starts_with(text: &[u8], start: &[u8]) -> bool
+    ensures { result ≡ starts_with text.now start.now }
+{
+    let mut rest = text;
+    for byte in start {
+        match rest {
+            [own, others @ ..] if own == byte => rest = others,
+            _ => return false,
+        }
+    }
+    true
 }
 
 // Whether each byte of the text stands in the set.
