@@ -1,7 +1,10 @@
 -- Cases of three rows.
-use Rattle.std.specs.Prelude.{ℕ, zero, suc, cond, List, [], ◌∷◌, length, drop, slice_index_or}
+use Rattle.std.specs.Prelude.{ℕ, zero, suc, cond, Bool, ◌≡◌, List, [], ◌∷◌, length, drop, slice_index_or}
+use Rattle.std.specs.List.{FoldsTo}
 use Rattle.harness.specs.declared.cases.Case.{Case}
 use Rattle.harness.specs.declared.cases.Cases.{Cases}
+use Rattle.harness.specs.declared.tally.Tally.{Tally}
+use Rattle.harness.specs.Tally.{no_cases, counted_of}
 use Rattle.harness.specs.Text.{rows_of, rows_left, is_remark}
 
 -- a case by its rows
@@ -29,3 +32,15 @@ cases_of text = cases_in (rows_of text)
 -- those that are still to come
 abbrev pub cases_left : Cases → List CaseRows
 cases_left s = cases_in (rows_left s.rows)
+
+-- one turn over cases, by what a judge may do: a case of these rows got an answer, which left the judge as it is behind the turn and was counted
+abbrev pub IsJudged : {J : Type 0} → (J → Case → Bool → J → Type 0) → J × Tally → CaseRows → J × Tally → Type 0
+IsJudged judges before rows after =
+    (case : Case) × (well : Bool)
+    × (rows_of_case case ≡ rows)
+    × judges before.0 case well after.0
+    × (after.1 ≡ counted_of before.1 well)
+
+-- each of the cases was judged once, in their order, and the tally counts just the answers that they got
+abbrev pub Judged : {J : Type 0} → (J → Case → Bool → J → Type 0) → J → J → List CaseRows → Tally → Type 0
+Judged judges before after cases tally = FoldsTo (IsJudged judges) (before, no_cases) cases (after, tally)

@@ -3,16 +3,18 @@
 //     step ADD@ R4,R4 is R4 + 1 + word
 //     before flags=SZOC 0100=02E4 1414=0005
 //     after flags=- r4=141A r7=0101 answer=executed cycles=8
-ghost use Rattle.std.specs.Prelude.{◌≡◌, true, ℕ, List, ◌%◌, ◌^◌, ◌<◌, ◌≤◌, length};
+ghost use Rattle.std.specs.Prelude.{◌≡◌, true, Bool, ⊤, ℕ, List, ◌%◌, ◌^◌, ◌≤◌, length};
 ghost use Rattle.std.specs.Option.{option_map};
-ghost use Rattle.std.specs.Fn.{FnOnceReturnsAt};
+ghost use Rattle.std.specs.Io.KnownBytes.{Consumes};
 ghost use Rattle.harness.specs.Text.{quoted};
 ghost use Rattle.harness.specs.Fields.{kind_of_row, body_of_row, body_of_kind};
-ghost use Rattle.harness.specs.Cases.{cases_of, cases_left, rows_of_case};
+ghost use Rattle.harness.specs.Cases.{cases_of, cases_left, rows_of_case, Judged};
+ghost use Rattle.harness.specs.declared.cases.Case.{Case};
 
 use crate::tally::Tally;
 use crate::text::Rows;
 use crate::{fields, text};
+use std::io::Read;
 
 #[derive(Clone, Copy)]
 pub struct Case<'a> {
@@ -102,30 +104,53 @@ pub fn begin(rt: &impl Print, name: &[u8]) -> bool
     true
 }
 
-// Runs the cases of an input. The closure begins the line of its case, and answers whether all went well.
-pub fn run_cases<F: FnMut(Case) -> bool>(rt: &impl Print, input: &[u8], mut is_well: F) -> Tally
-    requires { F.IsAlwaysCallable is_well }
-    ensures { result.cases ≡ length (cases_of input.now) % 2 ^ 64 }
+// What judges the cases of a program, with the rooms that its calls take.
+pub trait Judge {
+    // How a case may be answered, and how that leaves the judge. (A program need not say: its cases are counted as they were answered all the same.)
+    ghost judges: { Self → Case → Bool → Self → Type 0 } = { λ _ _ _ _. ⊤ };
+
+    // Begins the line of a case, and answers whether all went well.
+    fn is_well(&mut self, rt: &impl Print, case: Case) -> bool
+        ensures { judges self.old case.entry result self.new };
+}
+
+// Runs the cases of an input, and counts each by what its judge answers.
+pub fn run_cases<J: Judge>(rt: &impl Print, input: &[u8], judge: &mut J) -> Tally
+    ensures cases { result.cases ≡ length (cases_of input.now) % 2 ^ 64 }
+    ensures judged { Judged J.judges judge.old judge.new (cases_of input.now) result }
 {
     let mut tally = Tally::new();
     for case in Cases::of(input) {
-        tally.close(rt, is_well(case));
+        tally.close(rt, judge.is_well(rt, case));
     }
     tally
 }
 
-// Gives standard input to a program's cases, as far as there is room for it, and prints their counts.
-pub fn run<const ROOM: usize, F: FnOnce(&[u8]) -> Tally>(rt: &HostRuntime, run_cases: F) -> Tally
-    requires callable { F.IsAlwaysCallable run_cases }
-    requires fits { ROOM < 2 ^ 63 }
-    ensures { (input : List ℕ) × (length input ≤ ROOM) × FnOnceReturnsAt F.FnOnce run_cases input result }
+// Ends what a program prints: the counts, and before them that the input may have been cut, where it fills its room.
+pub fn tell(rt: &impl Print, is_full: bool, tally: Tally) -> Tally
+    ensures { result ≡ tally }
 {
-    let mut room = [0u8; ROOM];
-    let input = input::read_full(&mut rt.stdin(), &mut room);
-    let tally = run_cases(input);
-    if input.len() == ROOM {
+    if is_full {
         let _ = rt.println("the input fills its room, and may be cut");
     }
     let _ = rt.println(tally);
     tally
+}
+
+// Gives an input to a program's cases, as far as there is room for it, and prints their counts.
+pub fn run<R: Read, J: Judge>(
+    rt: &impl Print,
+    input: &mut R,
+    room: &mut [u8],
+    judge: &mut J,
+) -> Tally
+    ensures { (bytes : List ℕ)
+        × (length bytes ≤ length room.old)
+        × Consumes (R.remaining input.old) (R.remaining input.new) bytes
+        × Judged J.judges judge.old judge.new (cases_of bytes) result }
+{
+    let size = room.len();
+    let bytes = input::read_full(input, room);
+    let tally = run_cases(rt, bytes, judge);
+    tell(rt, bytes.len() == size, tally)
 }

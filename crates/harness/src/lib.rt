@@ -14,3 +14,6 @@ pub mod map;
 pub mod tally;
 pub mod text;
 pub mod words;
+
+// (A program whose rows are no cases reads its input by this, as `cases::run` does.)
+pub use input;

@@ -8,28 +8,31 @@ mod pattern;
 mod pieces;
 mod row;
 
-use harness::cases::{self, Case};
+use harness::cases::{self, Case, Judge};
 
 const INPUT_ROOM: usize = 262144;
 
-// The rows below the first are to begin with their names. The calls are those of this program, so that no other shares this function.
-fn is_well(case: Case) -> bool {
-    let (Some(before), Some(after)) = (case.before(), case.after()) else {
-        return false;
-    };
-    match case.kind() {
-        b"load" => call::load_is_well(before, after),
-        b"write" => call::write_is_well(before, after),
-        b"trip" => call::trip_is_well(before, after),
-        _ => false,
+// What judges a case here: the calls, which need no room.
+#[derive(Drop)]
+struct Calls;
+
+impl Judge for Calls {
+    // The rows below the first are to begin with their names. The calls are those of this program, so that no other shares this function.
+    fn is_well(&mut self, rt: &impl Print, case: Case) -> bool {
+        cases::begin(rt, case.name());
+        let (Some(before), Some(after)) = (case.before(), case.after()) else {
+            return false;
+        };
+        match case.kind() {
+            b"load" => call::load_is_well(before, after),
+            b"write" => call::write_is_well(before, after),
+            b"trip" => call::trip_is_well(before, after),
+            _ => false,
+        }
     }
 }
 
 // (A program has a main of its own: what it shares with the others is one call.)
 fn main(rt: HostRuntime) {
-    cases::run::<INPUT_ROOM, _>(&rt, |input| {
-        cases::run_cases(&rt, input, |case| {
-            cases::begin(&rt, case.name()) & is_well(case)
-        })
-    });
+    cases::run(&rt, &mut rt.stdin(), &mut [0u8; INPUT_ROOM], &mut Calls);
 }

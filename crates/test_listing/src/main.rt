@@ -6,25 +6,28 @@ mod assemble;
 mod list;
 
 use harness::cases;
-use harness::cases::Case;
+use harness::cases::{Case, Judge};
 
-// The first row tells what is called.
-fn is_well(case: Case) -> bool {
-    let (Some(before), Some(after)) = (case.before(), case.after()) else {
-        return false;
-    };
-    match case.kind() {
-        b"list" => list::is_well(before, after),
-        b"assemble" => assemble::is_well(before, after),
-        _ => false,
+// What judges a case here: the calls, which need no room.
+#[derive(Drop)]
+struct Calls;
+
+impl Judge for Calls {
+    // The first row tells what is called.
+    fn is_well(&mut self, rt: &impl Print, case: Case) -> bool {
+        cases::begin(rt, case.first);
+        let (Some(before), Some(after)) = (case.before(), case.after()) else {
+            return false;
+        };
+        match case.kind() {
+            b"list" => list::is_well(before, after),
+            b"assemble" => assemble::is_well(before, after),
+            _ => false,
+        }
     }
 }
 
 // (A program has a main of its own: what it shares with the others is one call.)
 fn main(rt: HostRuntime) {
-    cases::run::<65536, _>(&rt, |input| {
-        cases::run_cases(&rt, input, |case| {
-            cases::begin(&rt, case.first) & is_well(case)
-        })
-    });
+    cases::run(&rt, &mut rt.stdin(), &mut [0u8; 65536], &mut Calls);
 }

@@ -5,12 +5,15 @@
 mod rows;
 
 use cpu::{Done, Kind};
+use harness::input::read_full;
 use harness::tally::Tally;
 use harness::text::Rows;
 use harness::{case, cases, fields, machine, text};
 use listing::Assembly;
 use memory::map;
 use refusal::Refusal;
+
+const INPUT_ROOM: usize = 131072;
 
 // An instruction was executed, in so many cycles.
 fn agree_answer(rt: &impl Print, given: Result<Done, Refusal>, expected: u64) -> bool {
@@ -74,5 +77,8 @@ fn run_rows(rt: &impl Print, input: &[u8]) -> Tally {
 }
 
 fn main(rt: HostRuntime) {
-    cases::run::<131072, _>(&rt, |input| run_rows(&rt, input));
+    let mut room = [0u8; INPUT_ROOM];
+    let input = read_full(&mut rt.stdin(), &mut room);
+    let tally = run_rows(&rt, input);
+    cases::tell(&rt, input.len() == INPUT_ROOM, tally);
 }

@@ -9,7 +9,7 @@ mod verdict;
 use crate::answer::Answer;
 use crate::rows::Call;
 use cpu::State;
-use harness::cases::Case;
+use harness::cases::{Case, Judge};
 use harness::{case, cases, machine, words};
 
 // One word more than a step takes, for the cases that lend too much.
@@ -76,25 +76,35 @@ fn call_agrees(
         & verdict::agree_memory(rt, memory, expected)
 }
 
-// Prints what the line of a case begins with, and answers whether all went well. Lends the call as many words as the case says.
-fn is_well(rt: &impl Print, case: Case, memory: &mut [u16], expected: &mut [u16]) -> bool {
-    cases::begin(rt, rows::name_of(case));
-    let Some((call, before, after)) = rows::parts_of(case) else {
-        return case::malformed(rt);
-    };
-    let size = words::size_of(before) as usize;
-    let (Some(memory), Some(expected)) = (memory.get_mut(..size), expected.get_mut(..size)) else {
-        return case::malformed(rt);
-    };
-    call_agrees(rt, call, before, after, memory, expected)
+// What judges a case here: the calls, in the rooms that they need. `expected` is the memory's twin, with the stores that a case names.
+#[derive(Drop)]
+struct Rooms {
+    memory: [u16; MEMORY_ROOM],
+    expected: [u16; MEMORY_ROOM],
+}
+
+impl Judge for Rooms {
+    // Lends the call as many words as the case says.
+    fn is_well(&mut self, rt: &impl Print, case: Case) -> bool {
+        cases::begin(rt, rows::name_of(case));
+        let Some((call, before, after)) = rows::parts_of(case) else {
+            return case::malformed(rt);
+        };
+        let size = words::size_of(before) as usize;
+        let (Some(memory), Some(expected)) = (
+            self.memory.get_mut(..size),
+            self.expected.get_mut(..size),
+        ) else {
+            return case::malformed(rt);
+        };
+        call_agrees(rt, call, before, after, memory, expected)
+    }
 }
 
 fn main(rt: HostRuntime) {
-    let mut memory = [0u16; MEMORY_ROOM];
-    let mut expected = [0u16; MEMORY_ROOM];
-    cases::run::<262144, _>(&rt, |input| {
-        cases::run_cases(&rt, input, |case| {
-            is_well(&rt, case, &mut memory, &mut expected)
-        })
-    });
+    let mut rooms = Rooms {
+        memory: [0; MEMORY_ROOM],
+        expected: [0; MEMORY_ROOM],
+    };
+    cases::run(&rt, &mut rt.stdin(), &mut [0u8; 262144], &mut rooms);
 }

@@ -1,5 +1,5 @@
--- `run_cases`: the cases that were counted and those that are left are all.
-use Rattle.std.proofs.Common.{◌≡◌, ℕ, ◌+◌, ◌*◌, ◌/◌, ◌%◌, ◌^◌, ◌<◌, Bool, length, sym, ap, ◌∙◌, rules, of_calls, arith}
+-- `run_cases`: the cases that were counted and those that are left are all, and each was judged.
+use Rattle.std.proofs.Common.{◌≡◌, ℕ, ◌+◌, ◌*◌, ◌/◌, ◌%◌, ◌^◌, ◌<◌, Bool, length, refl, sym, ap, ◌∙◌, arith}
 use Rattle.std.proofs.Math.Nat.{div-add-mod, add-mul-mod_self_left}
 use Rattle.harness.specs.declared.tally.Tally.{Tally}
 use Rattle.harness.specs.Tally.{counted_of}
@@ -21,6 +21,10 @@ counted t u well m e = rw e (omega arith, one_more t.cases m (2 ^ 64))
 pub loop-case-preserved : goal.loop-case-preserved
 loop-case-preserved g c =
     let k = c.loop-case in
-    let left : length (cases_left k.case-iterator) ≡ length (cases_left c.next.new.self) + 1 = omega (arith, ap length c.in-Some.ensures.steps) in
-    let more = counted k.tally c.close.new.self c.is_well.result (length (cases_left c.next.new.self)) c.close.ensures in
-    (search (rules, of_calls), more.0, more.1 ∙ ap (λ n. (k.tally.cases + n) % 2 ^ 64) (sym left) ∙ k.invariant.2)
+    let steps = c.in-Some.ensures.steps in
+    let left : length (cases_left k.case-iterator) ≡ length (cases_left c.next.new.self) + 1 = omega (arith, ap length steps) in
+    let more = counted k.tally c.close.new.self _ (length (cases_left c.next.new.self)) c.close.ensures in (
+      more.0,
+      more.1 ∙ ap (λ n. (k.tally.cases + n) % 2 ^ 64) (sym left) ∙ k.invariant.1,
+      λ last tally rest. k.invariant.2 last tally (rw steps (_, (_, _, refl, c.is_well.ensures, c.close.ensures), rest)),
+    )
