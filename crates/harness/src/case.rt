@@ -6,7 +6,7 @@ ghost use Rattle.std.specs.Prelude.{◌≡◌, false, ◌==◌};
 pub fn malformed(rt: &impl Print) -> bool
     ensures { result ≡ false }
 {
-    let _ = rt.print("malformed, ");
+    let _ = rt.write_all(b"malformed, ");
     false
 }
 
@@ -15,7 +15,7 @@ pub fn agree(rt: &impl Print, what: &[u8], same: bool) -> bool
 {
     if !same {
         let _ = rt.write_all(what);
-        let _ = rt.print(" differs, ");
+        let _ = rt.write_all(b" differs, ");
     }
     same
 }

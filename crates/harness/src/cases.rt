@@ -100,7 +100,7 @@ pub fn begin(rt: &impl Print, name: &[u8]) -> bool
     ensures { result ≡ true }
 {
     let _ = rt.write_all(name);
-    let _ = rt.print(": ");
+    let _ = rt.write_all(b": ");
     true
 }
 

